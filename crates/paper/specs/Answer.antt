@@ -1,0 +1,131 @@
+-- Numbers given back: the answer, with 0 to 9 in their order, and every lent buffer at exit.
+-- Numbers 1 to 9 report both used lengths as 0 and change neither output buffer.
+use mathlib.Core.Bool.{Bool, true, false}
+use mathlib.Core.List.{List, [], _∷_, _++_}
+use mathlib.Core.Option.{Option, none, some}
+use Prim.Native.Nat.{ℕ, _+_}
+use lib.Dec.{ltb}
+use lib.ListN.{length, take, drop, replicate}
+use Rattle.paper.specs.Base.{choose, find, gather}
+use Rattle.paper.specs.Statements.{Statement}
+use Rattle.paper.specs.Reader.{Outcome, refused, given, reading}
+use Rattle.paper.specs.Frames.{Full, Frame, stub, full}
+use Rattle.paper.specs.Give.{Given, all-given}
+use Rattle.paper.specs.Records.{frame-stream, diag-stream}
+use Rattle.paper.specs.declared.Refusal.{Refusal}
+use Rattle.paper.specs.declared.Refusal.the-variants.{LongText, ShortWork, BadByte, OpenComment, BadToken, OpenText, ManyVariables, ShortFrames, ShortDiags}
+use Rattle.paper.specs.declared.Answer.{Answer}
+use Rattle.paper.specs.declared.Answer.the-variants.{Done, Refused}
+
+-- ---- the number and place of each refusal
+abbrev pub refusal-number : Refusal → ℕ
+refusal-number LongText = 1
+refusal-number (ShortWork p) = 2
+refusal-number (BadByte p) = 3
+refusal-number (OpenComment p) = 4
+refusal-number (BadToken p) = 5
+refusal-number (OpenText p) = 6
+refusal-number (ManyVariables p) = 7
+refusal-number (ShortFrames p) = 8
+refusal-number (ShortDiags p) = 9
+
+abbrev pub refusal-place : Refusal → ℕ
+refusal-place LongText = 0
+refusal-place (ShortWork p) = p
+refusal-place (BadByte p) = p
+refusal-place (OpenComment p) = p
+refusal-place (BadToken p) = p
+refusal-place (OpenText p) = p
+refusal-place (ManyVariables p) = p
+refusal-place (ShortFrames p) = p
+refusal-place (ShortDiags p) = p
+
+-- ---- number, place and used lengths of an answer
+abbrev pub number : Answer → ℕ
+number (Done f d) = 0
+number (Refused r) = refusal-number r
+
+abbrev pub place : Answer → ℕ
+place (Done f d) = 0
+place (Refused r) = refusal-place r
+
+abbrev pub frames-used : Answer → ℕ
+frames-used (Done f d) = f
+frames-used (Refused r) = 0
+
+abbrev pub diags-used : Answer → ℕ
+diags-used (Done f d) = d
+diags-used (Refused r) = 0
+
+-- ---- number 7: an assertion's frame has over 4,095 variables
+abbrev pub crowded : Frame → Bool
+crowded (stub o e n c v) = false
+crowded (full f) = ltb 4095 (length (f .variables))
+
+abbrev pub frame-at : Frame → ℕ
+frame-at (stub o e n c v) = o
+frame-at (full f) = f .at
+
+abbrev pub frames-in : List Given → List Frame
+frames-in l = gather (λ g. g .frame) l
+
+pub record Streams : Type 0 where
+  pub frames : List ℕ
+  pub diags : List ℕ
+
+-- numbers 8 and 9, for buffers of f and d bytes
+abbrev pub fitting : Streams → ℕ → ℕ → Outcome Streams
+fitting s f d =
+    choose (ltb f (length (s .frames))) (refused (ShortFrames (length (s .frames))))
+    (choose (ltb d (length (s .diags))) (refused (ShortDiags (length (s .diags)))) (given s))
+
+abbrev pub streams : List Given → Streams
+streams l = record { frames = frame-stream l; diags = diag-stream l }
+
+abbrev pub numbered : Option Frame → List Given → ℕ → ℕ → Outcome Streams
+numbered (some x) l f d = refused (ManyVariables (frame-at x))
+numbered none l f d = fitting (streams l) f d
+
+-- numbers 7, 8 and 9, for what the statements give
+unfoldable pub written : List Given → ℕ → ℕ → Outcome Streams
+written l f d = numbered (find crowded (frames-in l)) l f d
+
+abbrev pub written-of : Outcome (List Statement) → ℕ → ℕ → Outcome Streams
+written-of (refused r) f d = refused r
+written-of (given l) f d = written (all-given l) f d
+
+-- the streams of a text, given so many words of work area and bytes of output buffers; or one of numbers 1 to 9
+unfoldable pub outcome : List ℕ → ℕ → ℕ → ℕ → Outcome Streams
+outcome t w f d = written-of (reading t w) f d
+
+-- ---- what the operation answers
+abbrev pub answer-of : Outcome Streams → Answer
+answer-of (refused r) = Refused r
+answer-of (given s) = Done (length (s .frames)) (length (s .diags))
+
+unfoldable pub answer : List ℕ → ℕ → ℕ → ℕ → Answer
+answer t w f d = answer-of (outcome t w f d)
+
+-- ---- what the lent buffers hold at exit
+-- the bytes b laid over a buffer from a place on; the others keep their contents
+unfoldable pub laid : List ℕ → ℕ → List ℕ → List ℕ
+laid l at b = take at l ++ (b ++ drop (at + length b) l)
+
+abbrev pub frames-of : Outcome Streams → List ℕ → List ℕ
+frames-of (refused r) l = l
+frames-of (given s) l = laid l 0 (s .frames)
+
+abbrev pub diags-of : Outcome Streams → List ℕ → List ℕ
+diags-of (refused r) l = l
+diags-of (given s) l = laid l 0 (s .diags)
+
+-- the frame buffer f, the diagnostics buffer d and the work area w at entry
+unfoldable pub frames-exit : List ℕ → List ℕ → List ℕ → List ℕ → List ℕ
+frames-exit t w f d = frames-of (outcome t (length w) (length f) (length d)) f
+
+unfoldable pub diags-exit : List ℕ → List ℕ → List ℕ → List ℕ → List ℕ
+diags-exit t w f d = diags-of (outcome t (length w) (length f) (length d)) d
+
+-- The work area holds only zeros after every call.
+unfoldable pub work-exit : List ℕ → List ℕ
+work-exit w = replicate (length w) 0

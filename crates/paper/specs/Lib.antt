@@ -1,0 +1,14 @@
+pub mod Base
+pub mod Bytes
+pub mod Tokens
+pub mod Comments
+pub mod Statements
+pub mod Reader
+pub mod Names
+pub mod State
+pub mod Checks
+pub mod Frames
+pub mod Give
+pub mod Records
+pub mod Answer
+pub mod Lookup

@@ -1,0 +1,56 @@
+-- The reader: tokens, each with its offset and its bytes; the first bad byte.
+-- A token is a maximal run of bytes that are not white space; N counts them.
+use mathlib.Core.Bool.{Bool, true, false}
+use mathlib.Core.List.{List, [], _∷_}
+use mathlib.Core.Option.{Option, none, some}
+use Prim.Native.Nat.{ℕ, suc}
+use lib.Dec.{eqb}
+use Rattle.paper.specs.Base.{choose, or, sameb, all}
+use Rattle.paper.specs.Bytes.{white, printable, label-byte, math-byte}
+
+pub record Token : Type 0 where
+  pub at : ℕ
+  pub bytes : List ℕ
+
+-- the run at the front of some bytes, and the tokens after it
+pub record Run : Type 0 where
+  pub head : List ℕ
+  pub rest : List Token
+
+-- a run is a token if it has a byte
+abbrev pub put : ℕ → List ℕ → List Token → List Token
+put o [] l = l
+put o (b ∷ h) l = record { at = o; bytes = b ∷ h } ∷ l
+
+-- the byte b at offset o before what r says: white space ends a run, another byte goes on with it
+abbrev pub prefix : Bool → ℕ → ℕ → Run → Run
+prefix true b o r = record { head = []; rest = put (suc o) (r .head) (r .rest) }
+prefix false b o r = record { head = b ∷ r .head; rest = r .rest }
+
+unfoldable pub run : List ℕ → ℕ → Run
+run [] o = record { head = []; rest = [] }
+run (b ∷ l) o = prefix (white b) b o (run l (suc o))
+
+-- the tokens of bytes of which the first has offset o
+unfoldable pub toks : List ℕ → ℕ → List Token
+toks l o = let r = run l o in put o (r .head) (r .rest)
+
+unfoldable pub tokens : List ℕ → List Token
+tokens t = toks t 0
+
+-- only letters, digits, `-`, `_`, `.`
+unfoldable pub label-token : Token → Bool
+label-token t = all label-byte (t .bytes)
+
+-- printable without `$`
+unfoldable pub math-token : Token → Bool
+math-token t = all math-byte (t .bytes)
+
+-- the keyword of `$` and one more byte
+unfoldable pub key : ℕ → Token → Bool
+key k t = sameb (t .bytes) (36 ∷ k ∷ [])
+
+-- the offset of the first byte that is neither white space nor printable, from offset o on
+unfoldable pub bad-from : List ℕ → ℕ → Option ℕ
+bad-from [] o = none
+bad-from (b ∷ l) o = let r = bad-from l (suc o) in choose (or (white b) (printable b)) r (some o)
