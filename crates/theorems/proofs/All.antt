@@ -2,7 +2,7 @@
 -- Nothing here is about Metamath.
 use mathlib.Core.Path.{_≡_, refl, sym, ap, _∙_}
 use mathlib.Core.Bool.{Bool, true, false}
-use mathlib.Core.List.{List, [], _∷_, _++_}
+use mathlib.Core.List.{List, [], _∷_, _++_, nil≢cons}
 use Rattle.paper.specs.Base.{choose, keep, gather}
 
 pub data All {A : Type 0} (P : A → Type 0) : List A → Type 0 where
@@ -40,3 +40,7 @@ pub keep-none : {A : Type 0} (p : A → Bool) {l : List A} → All (λ x. p x �
 unfolding keep
 keep-none p nil = refl
 keep-none p (cons h a) = rw h (keep-none p a)
+
+pub not-nil : {A : Type 0} (x : List A) (t : A) (z : List A) → [] ≡ x ++ (t ∷ z) → ⊥
+not-nil [] t z e = nil≢cons e
+not-nil (y ∷ x) t z e = nil≢cons e

@@ -1,2 +1,4 @@
 pub mod All
 pub mod Tokens
+pub mod Comments
+pub mod Reader

@@ -2,15 +2,18 @@
 -- The lemmas T1 to T7 of the proof on paper, the first three by one induction.
 use mathlib.Core.Path.{_≡_, refl, sym, ap, _∙_}
 use mathlib.Core.Bool.{Bool, true, false}
-use mathlib.Core.List.{List, [], _∷_, _++_, nil≢cons}
-use Prim.Native.Nat.{ℕ, zero, suc, _+_, _<_, _≤_}
+use mathlib.Core.List.{List, [], _∷_, _++_}
+use Prim.Native.Nat.{ℕ, zero, suc, _+_, _-_, _<_, _≤_}
 use native.Mathlib.Nat.{add-zero, add-suc, suc-add}
 use native.Mathlib.Omega.{arith}
-use lib.ListN.{length, replicate, length-append}
+use lib.ListN.{length, take, drop, replicate, length-append, length-replicate}
+use lib.Seq.{take-at, drop-append-add}
 use Rattle.paper.specs.Bytes.{white}
+use Rattle.paper.specs.Answer.{laid}
 use Rattle.paper.specs.Tokens.{Token, Run, put, prefix, run, toks}
 use Rattle.paper.proofs.Tests.{split}
-use Rattle.theorems.proofs.All.{All, nil, cons}
+use Rattle.theorems.specs.Groups.{blanked}
+use Rattle.theorems.proofs.All.{All, nil, cons, all-map, not-nil}
 
 -- ---- T1, T2: cut at white space
 put-append : (o : ℕ) (h : List ℕ) (x y : List Token) → put o h (x ++ y) ≡ put o h x ++ y
@@ -93,10 +96,6 @@ later-cut c =
       right = c .right;
     }
 
-not-nil : (x : List Token) (t : Token) (z : List Token) → [] ≡ x ++ (t ∷ z) → ⊥
-not-nil [] t z e = nil≢cons e
-not-nil (y ∷ x) t z e = nil≢cons e
-
 -- by the run at the front: none, or the first token
 cut-by : (l : List ℕ) (o : ℕ) (h : List ℕ) (x : List Token) (t : Token) (z : List Token) → run l o .head ≡ h → ((y : List Token) → run l o .rest ≡ y ++ (t ∷ z) → Later l o y t z) → put o h (run l o .rest) ≡ x ++ (t ∷ z) → Cut l o x t z
 unfolding run toks
@@ -153,3 +152,65 @@ cut-later (b ∷ l) o x t z g =
 pub cut : (l : List ℕ) (o : ℕ) (x : List Token) (t : Token) (z : List Token) → toks l o ≡ x ++ (t ∷ z) → Cut l o x t z
 unfolding toks
 cut l o x t z g = cut-by l o (run l o .head) x t z refl (λ y. cut-later l o y t z) g
+
+-- ---- where tokens stand
+abbrev pub Within : ℕ → ℕ → Token → Type 0
+Within lo hi t = (lo ≤ t .at) × (t .at < hi)
+
+record RunWithin (l : List ℕ) (o : ℕ) : Type 0 where
+  short : length (run l o .head) ≤ length l
+  later : All (Within (suc o) (o + length l)) (run l o .rest)
+
+wider : {lo hi lo′ hi′ : ℕ} {l : List Token} → lo′ ≤ lo → hi ≤ hi′ → All (Within lo hi) l → All (Within lo′ hi′) l
+wider a b h = all-map (λ t k. (omega arith, omega arith)) h
+
+put-within : (o n : ℕ) (h : List ℕ) (l : List Token) → length h ≤ n → All (Within (suc o) (o + n)) l → All (Within o (o + n)) (put o h l)
+put-within o n [] l a b = wider (omega arith) (omega arith) b
+put-within o n (x ∷ h) l a b =
+    cons {x = record { at = o; bytes = x ∷ h }} (omega arith, omega arith) (wider (omega arith) (omega arith) b)
+
+run-within : (l : List ℕ) (o : ℕ) → RunWithin l o
+unfolding run
+run-within [] o = record { short = omega arith; later = nil }
+run-within (b ∷ l) o =
+    let r = run-within l (suc o) in
+    split (white b)
+    (λ w.
+      record {
+        short = rw w (omega arith);
+        later = rw (w, add-suc, ← suc-add) (put-within (suc o) (length l) (run l (suc o) .head) (run l (suc o) .rest) (r .short) (r .later));
+      })
+    (λ w.
+      record {
+        short = rw w (omega (arith, r .short));
+        later = rw (w, add-suc, ← suc-add) (wider (omega arith) (omega arith) (r .later));
+      })
+
+pub toks-within : (l : List ℕ) (o : ℕ) → All (Within o (o + length l)) (toks l o)
+unfolding toks
+toks-within l o =
+    put-within o (length l) (run l o .head) (run l o .rest) (run-within l o .short) (run-within l o .later)
+
+-- ---- a text in three parts, and with the middle one blanked
+pub record Parts (t : List ℕ) (p q : ℕ) : Type 0 where
+  pub front : List ℕ
+  pub body : List ℕ
+  pub back : List ℕ
+  pub text : t ≡ front ++ (36 ∷ 123 ∷ (body ++ (36 ∷ 125 ∷ back)))
+  pub from : p ≡ length front
+  pub to : q ≡ (p + 2) + length body
+
+pub blanked-parts : {t : List ℕ} {p q : ℕ} (x : Parts t p q) → blanked t p q ≡ x .front ++ (replicate (4 + length (x .body)) 32 ++ x .back)
+unfolding blanked laid
+blanked-parts {t} {p} {q} x =
+    let n : (q + 2) - p ≡ 4 + length (x .body) = omega (arith, x .to) in
+    let i : p + (4 + length (x .body)) ≡ length (x .front) + suc (suc (length (x .body) + 2)) = omega (arith, x .from) in
+    let a : take p t ≡ x .front = ap (take p) (x .text) ∙ take-at (x .front) _ p (sym (x .from)) in
+    let b : drop (p + (4 + length (x .body))) t ≡ x .back =
+      rw (i, x .text) (drop-append-add (x .front) _ _ ∙ drop-append-add (x .body) (36 ∷ 125 ∷ x .back) 2) in
+    rw (n, length-replicate {A = ℕ} (4 + length (x .body)) 32, a, b)
+
+-- T6, the blanked side: the tokens before and after
+pub toks-parts : (a : List ℕ) (n : ℕ) (b : List ℕ) (o : ℕ) → toks (a ++ (replicate (suc n) 32 ++ b)) o ≡ toks a o ++ toks b (suc (o + length a) + n)
+toks-parts a n b o =
+    toks-white a 32 (replicate n 32 ++ b) o white-32 ∙ rw (toks-blank n b (suc (o + length a)))
