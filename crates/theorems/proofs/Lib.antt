@@ -1,5 +1,6 @@
-pub mod All
 pub mod Tokens
 pub mod Comments
 pub mod Reader
 pub mod Ends
+pub mod Parts
+pub mod Whole

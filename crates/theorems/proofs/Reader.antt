@@ -14,7 +14,7 @@ use Rattle.paper.specs.Tokens.{Token, label-token, math-token, key}
 use Rattle.paper.specs.Statements.{Kind, $c, $v, $d, $f, $e, $a, $p, Statement, Item, opens, closes, states}
 use Rattle.paper.specs.Reader.{Mode, start, named, math, proof, plain-kind, label-kind, room, least, closing, Step, go, stop, shut, begin, keyword, closed, allow, with-items, many}
 use Rattle.paper.proofs.Tests.{split}
-use Rattle.theorems.proofs.All.{All, nil, cons, all-append, not-nil}
+use Rattle.paper.proofs.All.{All, nil, cons, all-append, not-nil}
 
 -- ---- what one allowed token does
 -- the offset of the statement in hand, or z where there is none
