@@ -9,7 +9,7 @@ use native.Mathlib.Omega.{arith}
 use lib.ListN.{length, replicate, length-append}
 use Rattle.paper.specs.Tokens.{Token, key, toks, tokens}
 use Rattle.paper.specs.Comments.{Place, outside, inside, next, after, visible}
-use Rattle.paper.specs.Statements.{Item, opens, closes, states}
+use Rattle.paper.specs.Statements.{Statement, Item, opens, closes, states, closers, ends}
 use Rattle.paper.specs.Reader.{Mode, start, named, math, proof, Step, go, stop, many, Outcome, given, refused, finish, close, ending, items}
 use Rattle.paper.proofs.Tests.{same-eq}
 use Rattle.theorems.specs.Groups.{closer, blanked}
@@ -17,7 +17,7 @@ use Rattle.paper.proofs.All.{All, all-map}
 use Rattle.theorems.proofs.Tokens.{Cut, cut, Within, toks-within, Parts, blanked-parts, toks-parts}
 use Rattle.theorems.proofs.Comments.{after-append, visible-append, visible-all, Shown, shown-cut, shown-after}
 use Rattle.theorems.proofs.Reader.{Reads, many-reads, reads-many, reads-append, Level, reads-level, level-shift, TokenAt, ItemAt, reads-at, reads-cut, Opened, Closed, brace-opened, brace-closed}
-use Rattle.theorems.proofs.Ends.{Owned, owned}
+use Rattle.theorems.proofs.Ends.{closers-append, ends-append, ends-at, Owned, owned, neutral, ends-low}
 
 -- ---- a text is read: the reader stands between statements, at depth 0, outside comments
 pub record Read (l : List Token) (i : List Item) : Type 0 where
@@ -249,3 +249,38 @@ split-group t p q i e c =
     let l = places (tokens t) (b .before) (b .left-brace) (b .middle) (b .right-brace) (b .behind) (b .tokens) in
     let y = bytes-of t (l .before) (l .middle) (l .behind) (b .left-brace) (b .right-brace) p q (l .tokens) (key-bytes 123 (b .left-brace) (b .opens-here)) (b .from) (key-bytes 125 (b .right-brace) (b .closes-here)) (b .to) in
     split-by t p q i o b l y (h .out)
+
+-- ---- E3: the statements of the text with the group blanked are those before and after it, with equal ends
+pub record Three (w x : List Statement) (p q : ℕ) : Type 0 where
+  pub before : List Statement
+  pub within-it : List Statement
+  pub behind : List Statement
+  pub whole : w ≡ before ++ (within-it ++ behind)
+  pub without : x ≡ before ++ behind
+  pub before-at : All (λ s. s .at < p) before
+  pub within-at : All (λ s. (p ≤ s .at) × (s .at < q)) within-it
+  pub within-end : All (λ s. s .end ≤ q) within-it
+  pub behind-at : All (λ s. q < s .at) behind
+
+module _ (f : List Item) (p : ℕ) (b : List Item) (q : ℕ) (c : List Item) (n : closers b (q ∷ closers c []) ≡ q ∷ closers c []) where
+  whole-ends : ends (f ++ (opens p ∷ (b ++ (closes q ∷ c)))) [] ≡ ends f (closers c []) ++ (ends b (q ∷ closers c []) ++ ends c [])
+  unfolding ends closers
+  whole-ends =
+      ends-append f (opens p ∷ (b ++ (closes q ∷ c))) []
+      ∙ rw (closers-append b (closes q ∷ c) [], n, ends-append b (closes q ∷ c) [])
+
+pub three : {t : List ℕ} {p q : ℕ} {i : List Item} (x : Split t p q i) → Three (ends i []) (ends (x .front ++ x .back) []) p q
+three {p = p} {q = q} x =
+    let low = all-map (λ y h. h .1) (x .body-at) in
+    let l = closers (x .back) [] in
+    record {
+      before = ends (x .front) l;
+      within-it = ends (x .body) (q ∷ l);
+      behind = ends (x .back) [];
+      whole = ap (λ (r : List Item). ends r []) (x .items-are) ∙ whole-ends (x .front) p (x .body) q (x .back) (neutral q l (x .level) low);
+      without = ends-append (x .front) (x .back) [];
+      before-at = ends-at (λ n. n < p) l (x .front-at);
+      within-at = ends-at (λ n. (p ≤ n) × (n < q)) (q ∷ l) (x .body-at);
+      within-end = ends-low q l (x .level) low;
+      behind-at = ends-at (λ n. q < n) [] (x .back-at);
+    }
