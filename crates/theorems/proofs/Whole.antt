@@ -2,13 +2,14 @@
 -- The lemmas W1 to W4 of the proof on paper.
 use mathlib.Core.Path.{_≡_, refl, sym, ap, _∙_}
 use mathlib.Core.Bool.{Bool, true, false}
-use mathlib.Core.List.{List, [], _∷_, _++_, map}
+use mathlib.Core.List.{List, [], _∷_, _++_, map, append-nil}
 use mathlib.Core.Option.{Option, none, some}
 use Prim.Native.Nat.{ℕ, suc, _<_, _≤_}
 use native.Mathlib.Omega.{arith}
+use lib.Dec.{leb}
 use lib.ListN.{drop}
-use borrow.Author.Tests.{ne-eqb}
-use Rattle.paper.specs.Base.{choose, any, keep, find, orElse, gather}
+use borrow.Author.Tests.{ne-eqb, le-leb, lt-leb}
+use Rattle.paper.specs.Base.{choose, not, within, sameb, any, keep, find, orElse, gather}
 use Rattle.paper.specs.Tokens.{Token}
 use Rattle.paper.specs.Statements.{Kind, $c, $v, $d, $f, $e, $a, $p, labelled, Statement, none-end, outermost}
 use Rattle.paper.specs.Names.{named, bearer, labels, owner, Declared, declarations, declared, declares-name, global}
@@ -17,9 +18,10 @@ use Rattle.paper.specs.Checks.{Diag, diag, each, token, check-label, outer-toke
 use Rattle.paper.specs.Frames.{symbol, formula}
 use Rattle.paper.specs.Give.{Given, only, with-nested, give-c, give-v, give-d, give-f, give-e, give-assertion, give-by, give}
 use Rattle.paper.proofs.Tests.{split, same-refl}
-use Rattle.paper.proofs.Lists.{gather-append, find-append}
-use Rattle.paper.proofs.All.{All, nil, cons, all-head, all-map, all-ungather, gather-none, any-left, any-right, find-any}
-use Rattle.theorems.specs.Groups.{symbols-by, symbols, borne, declared-in}
+use Rattle.paper.proofs.Lists.{gather-append, keep-append, find-append}
+use Rattle.paper.proofs.All.{All, nil, cons, all-append, all-head, all-map, all-ungather, gather-none, keep-all, keep-none, any-left, any-right, find-any}
+use Rattle.theorems.specs.Groups.{inside, outside, symbols-by, symbols, borne, declared-in, Apart}
+use Rattle.theorems.proofs.Parts.{Three}
 
 -- ---- W3: what is asked of the whole text
 pub record Agree (w x : List Statement) (s : Statement) : Type 0 where
@@ -106,3 +108,85 @@ module _ (w x : List Statement) (d : declared w ≡ declared x) where
 pub give-same : {w x : List Statement} {s : Statement} → Agree w x s → (v : State) → give w v s ≡ give x v s
 unfolding give
 give-same {w} {x} {s} a v = give-same-by w x (a .globals) (s .kind) s refl (a .label-owner) (a .symbol-owners) v
+
+-- ---- where statements stand
+pub below-it : (p q n : ℕ) → n < p → within p q n ≡ false
+below-it p q n h = rw (lt-leb p n h)
+
+pub within-it : (p q n : ℕ) → p ≤ n → n ≤ q → within p q n ≡ true
+within-it p q n g h = rw (le-leb p n g, le-leb n q h)
+
+-- outside the group whatever comes of the first comparison
+pub beyond-it : (p q n : ℕ) → q < n → within p q n ≡ false
+beyond-it p q n h = split (leb p n) (λ e. rw (e, lt-leb n q h)) (λ e. rw e)
+
+module _ {w x : List Statement} {p q : ℕ} (h : Three w x p q) where
+  inside-are : keep (inside p q) w ≡ h .within-it
+  inside-are =
+      ap (keep (inside p q)) (h .whole)
+      ∙ (keep-append (inside p q) (h .before) (h .within-it ++ h .behind)
+      ∙ rw (keep-none (inside p q) (all-map (λ s k. below-it p q (s .at) k) (h .before-at)),
+        keep-append (inside p q) (h .within-it) (h .behind),
+        keep-all (inside p q) (all-map (λ s k. within-it p q (s .at) (k .0) (omega (arith, k .1))) (h .within-at)),
+        keep-none (inside p q) (all-map (λ s k. beyond-it p q (s .at) k) (h .behind-at)),
+        append-nil))
+
+  outside-are : keep (outside p q) w ≡ x
+  outside-are =
+      ap (keep (outside p q)) (h .whole)
+      ∙ (keep-append (outside p q) (h .before) (h .within-it ++ h .behind)
+      ∙ rw (keep-all (outside p q) (all-map (λ s k. ap not (below-it p q (s .at) k)) (h .before-at)),
+        keep-append (outside p q) (h .within-it) (h .behind),
+        keep-none (outside p q) (all-map (λ s k. ap not (within-it p q (s .at) (k .0) (omega (arith, k .1)))) (h .within-at)),
+        keep-all (outside p q) (all-map (λ s k. ap not (beyond-it p q (s .at) k)) (h .behind-at)))
+      (sym (h .without)))
+
+  -- ---- W1: the group declares nothing globally
+  pub globals-same : q < none-end → declared w ≡ declared x
+  unfolding declared outermost
+  globals-same k =
+      rw (h .whole, h .without, gather-append declarations (h .before) (h .within-it ++ h .behind),
+        gather-append declarations (h .within-it) (h .behind),
+        gather-none declarations (all-map (λ s e. rw (ne-eqb (s .end) none-end (omega arith))) (h .within-end)),
+        gather-append declarations (h .before) (h .behind))
+
+  -- ---- W2: a name not borne in the group has the same owner
+  pub owner-same : (n : List ℕ) → borne n (h .within-it) ≡ false → owner w n ≡ owner x n
+  unfolding owner labels
+  owner-same n e =
+      rw (h .whole, h .without, gather-append bearer (h .before) (h .within-it ++ h .behind),
+        gather-append bearer (h .within-it) (h .behind),
+        gather-append bearer (h .before) (h .behind),
+        find-append (named n) (gather bearer (h .before)) (gather bearer (h .within-it) ++ gather bearer (h .behind)),
+        find-append (named n) (gather bearer (h .within-it)) (gather bearer (h .behind)),
+        find-any (named n) (gather bearer (h .within-it)) e,
+        find-append (named n) (gather bearer (h .before)) (gather bearer (h .behind)))
+
+-- what holds of the names of some tokens holds of each
+named-all : (Q : List ℕ → Type 0) (l : List Token) → ((n : List ℕ) → any (named n) l ≡ true → Q n) → All (λ t. Q (t .bytes)) l
+unfolding any
+named-all Q [] f = nil
+named-all Q (t ∷ l) f =
+    cons (f (t .bytes) (rw (same-refl (t .bytes))))
+    (named-all Q l (λ n e. f n (split (sameb (t .bytes) n) (λ k. rw k) (λ k. rw k e))))
+
+refuted : {a b : Bool} → (a ≡ true → b ≡ false) → b ≡ true → a ≡ false
+refuted {a} {b} f e = split a (λ k. let z : b ≡ false = f k in cc) (λ k. k)
+
+-- ---- W4: the premise of demand 3 suffices
+pub agree : {w x : List Statement} {p q : ℕ} → Three w x p q → q < none-end → Apart w p q → All (Agree w x) x
+unfolding labels
+agree {w} {x} {p} {q} h k a =
+    let g = globals-same h k in
+    let free : (n : List ℕ) → borne n (h .within-it) ≡ false → owner w n ≡ owner x n = owner-same h in
+    let one : All (λ t. owner w (t .bytes) ≡ owner x (t .bytes)) (labels x) =
+      named-all (λ n. owner w n ≡ owner x n) (labels x)
+      (λ n e. free n (refuted (rw (inside-are h, outside-are h) at (a .labels-apart n)) e)) in
+    let two : All (λ t. owner w (t .bytes) ≡ owner x (t .bytes)) (gather symbols x) =
+      named-all (λ n. owner w n ≡ owner x n) (gather symbols x)
+      (λ n e. free n (refuted (rw (inside-are h, outside-are h) at (a .symbols-apart n)) e)) in
+    both g (all-ungather bearer x one) (all-ungather symbols x two)
+  where
+    both : {w x l : List Statement} → declared w ≡ declared x → All (λ s. All (λ t. owner w (t .bytes) ≡ owner x (t .bytes)) (bearer s)) l → All (λ s. All (λ t. owner w (t .bytes) ≡ owner x (t .bytes)) (symbols s)) l → All (Agree w x) l
+    both g nil nil = nil
+    both g (cons a b) (cons c d) = cons (record { globals = g; label-owner = a; symbol-owners = c }) (both g b d)
