@@ -4,3 +4,4 @@ pub mod Reader
 pub mod Ends
 pub mod Parts
 pub mod Whole
+pub mod Fold
