@@ -5,3 +5,4 @@ pub mod Ends
 pub mod Parts
 pub mod Whole
 pub mod Fold
+pub mod Streams
