@@ -6,3 +6,4 @@ pub mod Parts
 pub mod Whole
 pub mod Fold
 pub mod Streams
+pub mod Offsets
