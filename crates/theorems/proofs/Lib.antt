@@ -7,3 +7,4 @@ pub mod Whole
 pub mod Fold
 pub mod Streams
 pub mod Offsets
+pub mod Weights

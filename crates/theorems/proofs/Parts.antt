@@ -231,7 +231,7 @@ split-by t p q i o b l y out =
         (joined (l .before) (l .behind) (l .shown-before) (l .out-before) (l .shown-behind) (sym (l .out-behind) ∙ out) (b .read-before) (b .read-behind)));
     }
 
-read-reads : {l : List Token} {i : List Item} → Read l i → Reads (visible l outside) start 0 i start 0
+pub read-reads : {l : List Token} {i : List Item} → Read l i → Reads (visible l outside) start 0 i start 0
 read-reads {l} {i} h =
     let r = many-reads (visible l outside) start 0 [] start 0 i (h .all) in
     rw (r .sum) (r .reads)
