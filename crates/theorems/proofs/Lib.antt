@@ -8,3 +8,5 @@ pub mod Fold
 pub mod Streams
 pub mod Offsets
 pub mod Weights
+pub mod Pairs
+pub mod Lengths
