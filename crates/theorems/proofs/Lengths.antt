@@ -189,3 +189,48 @@ rows-length l d [] h = omega arith
 rows-length l d (x ∷ k) h =
     omega (arith, length-append (row-bytes (row l d x)) (gather row-bytes (map (row l d) k)),
       row-length (row l d x), length-map l (apart d x), rows-length l d k h)
+
+-- ---- the payload of a frame record after the statement's offset
+abbrev pub kind-of : Frame → ℕ
+kind-of (stub o e n c v) = 1
+kind-of (full f) = f .kind
+
+abbrev pub rest-of : Frame → List ℕ
+rest-of (stub o e n c v) = u32 e ++ (string n ++ (string c ++ string (raised v)))
+rest-of (full f) =
+    string (f .label)
+    ++ (u16 (length (f .variables))
+    ++ (u16 (f .mandatory)
+    ++ (gather string (f .variables)
+    ++ (string (f .pool)
+    ++ (u32 (length (f .hyps))
+    ++ (gather hypothesis-bytes (f .hyps)
+    ++ (expression-bytes (f .target)
+    ++ (u32 (length (f .pairs))
+    ++ (gather pair-bytes (f .pairs) ++ gather row-bytes (f .rows))))))))))
+
+pub frame-framed : (x : Frame) → frame-record x ≡ framed (kind-of x) (u32 (frame-at x) ++ rest-of x)
+unfolding frame-record full-payload
+frame-framed (stub o e n c v) = refl
+frame-framed (full f) = refl
+
+abbrev pub Short : Frame → Type 0
+Short x = 6 + length (rest-of x) < 4294967296
+
+pub stub-short : (o e : ℕ) (n c v : List ℕ) → length n + (length c + length v) ≤ 16777217 → Short (stub o e n c v)
+stub-short o e n c v h =
+    simp (length-append, u32-length, string-length) (omega (arith, raised-length v))
+
+pub full-short : (k : ℕ) (s : Statement) (v : State) (f : Formula) → state-weight v + (formula-weight f + length (s .label)) ≤ 16777217 → crowded (frame-of k s v f) ≡ false → Short (frame-of k s v f)
+unfolding frame-of rows
+full-short k s v f h c =
+    let m = mandatory (v .hyps) f in
+    let d = in-order (v .disjoints) in
+    let l = sights (gather (λ n. n) d) m in
+    let few : length l ≤ 4095 = ltb-false 4095 (length l) c in
+    let a : length m ≤ 4096 = omega (arith, sights-grow (gather (λ n. n) d) m) in
+    let b : total name-weight l ≤ 2 * total disjoint-weight (v .disjoints) + (total hyp-weight (v .hyps) + formula-weight f) =
+      omega (arith, sights-weight (gather (λ n. n) d) m, order-weight (v .disjoints), mandatory-weight (v .hyps) f) in
+    simp (length-append, u16-length, u32-length, string-length)
+    (omega (arith, strings-length l, b, pooled-length (v .hyps), pool-length f, hypotheses-length m (v .hyps) 0,
+      expression-length m f (length (gather pooled (v .hyps))), pair-length (pairs m d), pairs-few m d a, rows-length l d l few))
