@@ -5,7 +5,7 @@ use mathlib.Core.Bool.{Bool, true, false}
 use mathlib.Core.List.{List, [], _∷_, _++_, nil≢cons}
 use mathlib.Core.Option.{Option, none, some}
 use Rattle.paper.specs.Base.{choose, any, keep, find, gather}
-use Rattle.paper.proofs.Tests.{split}
+use Rattle.paper.proofs.Tests.{split, clash}
 
 pub data All {A : Type 0} (P : A → Type 0) : List A → Type 0 where
   nil : All P []
@@ -29,6 +29,10 @@ all-map f (cons {x = x} h a) = cons (f x h) (all-map f a)
 
 pub all-head : {A : Type 0} {P : A → Type 0} {x : A} {l : List A} → All P (x ∷ l) → P x
 all-head (cons h a) = h
+
+pub all-both : {A : Type 0} {P Q : A → Type 0} {l : List A} → All P l → All Q l → All (λ x. P x × Q x) l
+all-both nil nil = nil
+all-both (cons h a) (cons k b) = cons (h, k) (all-both a b)
 
 -- of all that the members of a list give
 pub all-gather : {A B : Type 0} {P : A → Type 0} {Q : B → Type 0} (f : A → List B) {l : List A} → ((x : A) → P x → All Q (f x)) → All P l → All Q (gather f l)
@@ -75,3 +79,16 @@ unfolding any find
 find-any p [] e = refl
 find-any p (x ∷ l) e =
     split (p x) (λ h. let z : true ≡ false = rw h at e in cc) (λ h. rw h (find-any p l (rw h at e)))
+
+pub find-none : {A : Type 0} (p : A → Bool) (l : List A) → find p l ≡ none → All (λ x. p x ≡ false) l
+unfolding find
+find-none p [] e = nil
+find-none p (x ∷ l) e =
+    split (p x)
+    (λ h. let z : some x ≡ none = rw h at e in let y : true ≡ false = cc in absurd (clash y))
+    (λ h. cons h (find-none p l (rw h at e)))
+
+pub none-find : {A : Type 0} (p : A → Bool) {l : List A} → All (λ x. p x ≡ false) l → find p l ≡ none
+unfolding find
+none-find p nil = refl
+none-find p (cons h a) = rw h (none-find p a)

@@ -37,7 +37,7 @@ u16-length : (n : ℕ) → length (u16 n) ≡ 2
 unfolding u16
 u16-length n = le-length 2 n
 
-u32-length : (n : ℕ) → length (u32 n) ≡ 4
+pub u32-length : (n : ℕ) → length (u32 n) ≡ 4
 unfolding u32
 u32-length n = le-length 4 n
 

@@ -10,3 +10,5 @@ pub mod Offsets
 pub mod Weights
 pub mod Pairs
 pub mod Lengths
+pub mod Refusals
+pub mod Records

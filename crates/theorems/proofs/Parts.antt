@@ -184,7 +184,7 @@ pub record Split (t : List ℕ) (p q : ℕ) (i : List Item) : Type 0 where
   pub blanked-read : (n : ℕ) → items (tokens (blanked t p q)) n ≡ given (front ++ back)
 
 -- where the visible tokens of some bytes stand
-shown-at : (l : List ℕ) (o : ℕ) {x u : List Token} (P : ℕ → Type 0) → ((n : ℕ) → o ≤ n → n < o + length l → P n) → toks l o ≡ x → visible x outside ≡ u → All (TokenAt P) u
+pub shown-at : (l : List ℕ) (o : ℕ) {x u : List Token} (P : ℕ → Type 0) → ((n : ℕ) → o ≤ n → n < o + length l → P n) → toks l o ≡ x → visible x outside ≡ u → All (TokenAt P) u
 shown-at l o P f a b =
     rw (← b, ← a) (visible-all outside (all-map (λ t h. f (t .at) (h .0) (h .1)) (toks-within l o)))
 
