@@ -93,16 +93,20 @@ carries w v s = carries-by (s .kind) w v s
 pub spent : {e : ℕ} {r : State} (a : ℕ) → Carries e r → e ≤ a → view r a ≡ nothing
 unfolding view
 spent {e} a c h =
-    rw (keep-none (active-nested a) (all-map (λ x k. le-ltb a (x .end) (omega arith)) (c .nested)),
+    rw (
+      keep-none (active-nested a) (all-map (λ x k. le-ltb a (x .end) (omega arith)) (c .nested)),
       keep-none (active-hyp a) (all-map (λ x k. le-ltb a (hyp-end x) (omega arith)) (c .hyps)),
-      keep-none (active-disjoint a) (all-map (λ x k. le-ltb a (x .end) (omega arith)) (c .disjoints)))
+      keep-none (active-disjoint a) (all-map (λ x k. le-ltb a (x .end) (omega arith)) (c .disjoints)),
+    )
 
 pub view-plus : (x y : State) (a : ℕ) → view (plus x y) a ≡ plus (view x a) (view y a)
 unfolding view
 view-plus x y a =
-    rw (keep-append (active-nested a) (x .nested) (y .nested),
+    rw (
+      keep-append (active-nested a) (x .nested) (y .nested),
       keep-append (active-hyp a) (x .hyps) (y .hyps),
-      keep-append (active-disjoint a) (x .disjoints) (y .disjoints))
+      keep-append (active-disjoint a) (x .disjoints) (y .disjoints),
+    )
 
 pub plus-nothing : (x : State) → plus x nothing ≡ x
 plus-nothing x = rw (append-nil (x .nested), append-nil (x .hyps), append-nil (x .disjoints))
@@ -139,7 +143,7 @@ behind-same {w} {u} {q = q} x y k (cons {x = s} p b) (cons h a) =
     let v : view x (s .at) ≡ view y (s .at) = k (s .at) p in
     let e : give w (view x (s .at)) s ≡ g = rw v (give-same h (view y (s .at))) in
     let f : Alike q (plus x (g .records)) (plus y (g .records)) =
-      λ c d. view-plus x (g .records) c ∙ (rw (k c d) (sym (view-plus y (g .records) c))) in
+    λ c d. view-plus x (g .records) c ∙ (rw (k c d) (sym (view-plus y (g .records) c))) in
     rw e (ap (λ (r : List Given). g ∷ r) (behind-same (plus x (g .records)) (plus y (g .records)) f b a))
 
 -- ---- F7
@@ -157,18 +161,18 @@ parted {w} {x} {p} {q} h k a =
     let first = later w (h .before) nothing in
     let third = later w (h .within-it) first in
     let alike : Alike q third (later x (h .before) nothing) =
-      λ c d. quiet w (h .within-end) first c d ∙ ap (λ (y : State). view y c) (b .1) in
+    λ c d. quiet w (h .within-end) first c d ∙ ap (λ (y : State). view y c) (b .1) in
     let c = behind-same third (later x (h .before) nothing) alike (h .behind-at) (all-right (h .before) (h .behind) g) in
     record {
       first = first;
       third = third;
       whole =
-        ap (λ (l : List Statement). gives w l nothing) (h .whole)
-        ∙ (gives-append w (h .before) (h .within-it ++ h .behind) nothing
-        ∙ ap (λ (r : List Given). gives w (h .before) nothing ++ r) (gives-append w (h .within-it) (h .behind) first));
+          ap (λ (l : List Statement). gives w l nothing) (h .whole)
+          ∙ (gives-append w (h .before) (h .within-it ++ h .behind) nothing
+          ∙ ap (λ (r : List Given). gives w (h .before) nothing ++ r) (gives-append w (h .within-it) (h .behind) first));
       without =
-        ap (λ (l : List Statement). gives x l nothing) (h .without)
-        ∙ (gives-append x (h .before) (h .behind) nothing
-        ∙ (ap (λ (r : List Given). r ++ gives x (h .behind) (later x (h .before) nothing)) (sym (b .0))
-        ∙ ap (λ (r : List Given). gives w (h .before) nothing ++ r) (sym c)));
+          ap (λ (l : List Statement). gives x l nothing) (h .without)
+          ∙ (gives-append x (h .before) (h .behind) nothing
+          ∙ (ap (λ (r : List Given). r ++ gives x (h .behind) (later x (h .before) nothing)) (sym (b .0))
+          ∙ ap (λ (r : List Given). gives w (h .before) nothing ++ r) (sym c)));
     }

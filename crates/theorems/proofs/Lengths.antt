@@ -53,8 +53,11 @@ raised-length (b ∷ c ∷ l) = ap suc (raised-length (c ∷ l))
 
 strings-length : (l : List (List ℕ)) → length (gather string l) ≤ 4 * total name-weight l
 strings-length l =
-    omega (arith, length-gather string l,
-      total-times 4 (λ n. length (string n)) name-weight (λ n. omega (arith, string-length n)) l)
+    omega (
+      arith,
+      length-gather string l,
+      total-times 4 (λ n. length (string n)) name-weight (λ n. omega (arith, string-length n)) l,
+    )
 
 -- ---- expressions and hypotheses
 fragment-length : (l : List (List ℕ)) (x : Symbol) (a b : ℕ) → length (gather fragment-bytes (fragment-at l x a b)) ≤ 10 * symbol-weight x
@@ -67,8 +70,12 @@ fragments-length : (l : List (List ℕ)) (m : List Symbol) (a b : ℕ) → lengt
 unfolding fragments total
 fragments-length l [] a b = none-gathered fragment-bytes
 fragments-length l (x ∷ m) a b =
-    omega (arith, gathered fragment-bytes (fragment-at l x a b) (fragments l m (begun x a b) (reached x b)),
-      fragment-length l x a b, fragments-length l m (begun x a b) (reached x b))
+    omega (
+      arith,
+      gathered fragment-bytes (fragment-at l x a b) (fragments l m (begun x a b) (reached x b)),
+      fragment-length l x a b,
+      fragments-length l m (begun x a b) (reached x b),
+    )
 
 expression-length : (l : List (List ℕ)) (f : Formula) (a : ℕ) → length (expression-bytes (expression l f a)) ≤ 16 + 10 * formula-weight f
 unfolding expression-bytes expression
@@ -88,8 +95,12 @@ hypotheses-length : (m : List (List ℕ)) (l : List Hyp) (a : ℕ) → length (g
 unfolding hypotheses total
 hypotheses-length m [] a = none-gathered hypothesis-bytes
 hypotheses-length m (h ∷ l) a =
-    omega (arith, gathered hypothesis-bytes (hypothesis m h a) (hypotheses m l (a + length (pooled h))),
-      hypothesis-length m h a, hypotheses-length m l (a + length (pooled h)))
+    omega (
+      arith,
+      gathered hypothesis-bytes (hypothesis m h a) (hypotheses m l (a + length (pooled h))),
+      hypothesis-length m h a,
+      hypotheses-length m l (a + length (pooled h)),
+    )
 
 -- ---- the pool
 constant-length : (x : Symbol) → length (constant-in x) ≤ 1 * symbol-weight x
@@ -99,8 +110,11 @@ constant-length (var n) = omega arith
 pool-length : (f : Formula) → length (pool-of f) ≤ formula-weight f
 unfolding pool-of
 pool-length f =
-    omega (arith, length-gather constant-in (f .body),
-      total-times 1 (λ x. length (constant-in x)) symbol-weight constant-length (f .body))
+    omega (
+      arith,
+      length-gather constant-in (f .body),
+      total-times 1 (λ x. length (constant-in x)) symbol-weight constant-length (f .body),
+    )
 
 pooled-one : (h : Hyp) → length (pooled h) ≤ 1 * hyp-weight h
 pooled-one (float o e v c) = omega arith
@@ -138,8 +152,11 @@ variable-weight (var n) = omega arith
 variables-weight : (f : Formula) → total name-weight (variables-of f) ≤ formula-weight f
 unfolding variables-of
 variables-weight f =
-    omega (arith, total-gather name-weight variable-in (f .body),
-      total-times 1 (λ x. total name-weight (variable-in x)) symbol-weight variable-weight (f .body))
+    omega (
+      arith,
+      total-gather name-weight variable-in (f .body),
+      total-times 1 (λ x. total name-weight (variable-in x)) symbol-weight variable-weight (f .body),
+    )
 
 formulas-one : (h : Hyp) → total formula-weight (formula-in h) ≤ 1 * hyp-weight h
 unfolding total
@@ -148,24 +165,35 @@ formulas-one (essential o e f) = omega arith
 
 formulas-weight : (l : List Formula) → total name-weight (gather variables-of l) ≤ total formula-weight l
 formulas-weight l =
-    omega (arith, total-gather name-weight variables-of l,
-      total-times 1 (λ f. total name-weight (variables-of f)) formula-weight (λ f. omega (arith, variables-weight f)) l)
+    omega (
+      arith,
+      total-gather name-weight variables-of l,
+      total-times 1 (λ f. total name-weight (variables-of f)) formula-weight (λ f. omega (arith, variables-weight f)) l,
+    )
 
 mandatory-weight : (h : List Hyp) (f : Formula) → total name-weight (mandatory h f) ≤ total hyp-weight h + formula-weight f
 unfolding mandatory total
 mandatory-weight h f =
-    omega (arith, sights-weight (gather variables-of (gather formula-in h ++ (f ∷ []))) [],
-      formulas-weight (gather formula-in h ++ (f ∷ [])), total-append formula-weight (gather formula-in h) (f ∷ []),
+    omega (
+      arith,
+      sights-weight (gather variables-of (gather formula-in h ++ (f ∷ []))) [],
+      formulas-weight (gather formula-in h ++ (f ∷ [])),
+      total-append formula-weight (gather formula-in h) (f ∷ []),
       total-gather formula-weight formula-in h,
-      total-times 1 (λ x. total formula-weight (formula-in x)) hyp-weight formulas-one h)
+      total-times 1 (λ x. total formula-weight (formula-in x)) hyp-weight formulas-one h,
+    )
 
 order-weight : (l : List Disjoint) → total name-weight (gather (λ n. n) (in-order l)) ≤ 2 * total disjoint-weight l
 unfolding in-order
 order-weight l =
-    omega (arith, total-gather name-weight (λ n. n) (map (λ d. d .names) (keep outer l ++ keep inner l)),
+    omega (
+      arith,
+      total-gather name-weight (λ n. n) (map (λ d. d .names) (keep outer l ++ keep inner l)),
       total-map (total name-weight) (λ d. d .names) (keep outer l ++ keep inner l),
       total-append disjoint-weight (keep outer l) (keep inner l),
-      total-keep disjoint-weight outer l, total-keep disjoint-weight inner l)
+      total-keep disjoint-weight outer l,
+      total-keep disjoint-weight inner l,
+    )
 
 -- ---- pairs and rows
 pair-length : (l : List Pair) → length (gather pair-bytes l) ≡ 4 * length l
@@ -187,8 +215,13 @@ rows-length : (l : List (List ℕ)) (d : List (List (List ℕ))) (k : List (List
 unfolding gather
 rows-length l d [] h = omega arith
 rows-length l d (x ∷ k) h =
-    omega (arith, length-append (row-bytes (row l d x)) (gather row-bytes (map (row l d) k)),
-      row-length (row l d x), length-map l (apart d x), rows-length l d k h)
+    omega (
+      arith,
+      length-append (row-bytes (row l d x)) (gather row-bytes (map (row l d) k)),
+      row-length (row l d x),
+      length-map l (apart d x),
+      rows-length l d k h,
+    )
 
 -- ---- the payload of a frame record after the statement's offset
 abbrev pub kind-of : Frame → ℕ
@@ -230,7 +263,17 @@ full-short k s v f h c =
     let few : length l ≤ 4095 = ltb-false 4095 (length l) c in
     let a : length m ≤ 4096 = omega (arith, sights-grow (gather (λ n. n) d) m) in
     let b : total name-weight l ≤ 2 * total disjoint-weight (v .disjoints) + (total hyp-weight (v .hyps) + formula-weight f) =
-      omega (arith, sights-weight (gather (λ n. n) d) m, order-weight (v .disjoints), mandatory-weight (v .hyps) f) in
+    omega (arith, sights-weight (gather (λ n. n) d) m, order-weight (v .disjoints), mandatory-weight (v .hyps) f) in
     simp (length-append, u16-length, u32-length, string-length)
-    (omega (arith, strings-length l, b, pooled-length (v .hyps), pool-length f, hypotheses-length m (v .hyps) 0,
-      expression-length m f (length (gather pooled (v .hyps))), pair-length (pairs m d), pairs-few m d a, rows-length l d l few))
+    (omega (
+      arith,
+      strings-length l,
+      b,
+      pooled-length (v .hyps),
+      pool-length f,
+      hypotheses-length m (v .hyps) 0,
+      expression-length m f (length (gather pooled (v .hyps))),
+      pair-length (pairs m d),
+      pairs-few m d a,
+      rows-length l d l few,
+    ))

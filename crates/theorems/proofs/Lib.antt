@@ -12,3 +12,4 @@ pub mod Pairs
 pub mod Lengths
 pub mod Refusals
 pub mod Records
+pub mod Demand3

@@ -38,9 +38,9 @@ free-less (suc c) l m =
     split (any (has c) l)
     (λ e. rw (e, any-left (has c) l m e) (omega (arith, free-less c l m)))
     (λ e.
-      split (any (has c) (l ++ m))
-      (λ k. rw (e, k) (omega (arith, free-less c l m)))
-      (λ k. rw (e, k) (omega (arith, free-less c l m))))
+    split (any (has c) (l ++ m))
+    (λ k. rw (e, k) (omega (arith, free-less c l m)))
+    (λ k. rw (e, k) (omega (arith, free-less c l m))))
 
 any-last : (x : Pair) (l : List Pair) → any (has (code x)) (l ++ (x ∷ [])) ≡ true
 unfolding any
@@ -53,18 +53,18 @@ free-taken zero l x h e = omega arith
 free-taken (suc c) l x h e =
     split (eqb (code x) c)
     (λ k.
-      let q : code x ≡ c = eqb-true (code x) c k in
-      let y : any (has c) (l ++ (x ∷ [])) ≡ true = subst (λ (z : ℕ). any (has z) (l ++ (x ∷ [])) ≡ true) q (any-last x l) in
-      let z : any (has c) l ≡ false = subst (λ (z : ℕ). any (has z) l ≡ false) q e in
-      rw (y, z) (omega (arith, free-less c l (x ∷ []))))
+    let q : code x ≡ c = eqb-true (code x) c k in
+    let y : any (has c) (l ++ (x ∷ [])) ≡ true = subst (λ (z : ℕ). any (has z) (l ++ (x ∷ [])) ≡ true) q (any-last x l) in
+    let z : any (has c) l ≡ false = subst (λ (z : ℕ). any (has z) l ≡ false) q e in
+    rw (y, z) (omega (arith, free-less c l (x ∷ []))))
     (λ k.
-      let r = free-taken c l x (omega (arith, eqb-ne {x = code x} {y = c} k)) e in
-      split (any (has c) l)
-      (λ y. rw (y, any-left (has c) l (x ∷ []) y) (omega arith))
-      (λ y.
-        split (any (has c) (l ++ (x ∷ [])))
-        (λ z. rw (y, z) (omega arith))
-        (λ z. rw (y, z) (omega arith))))
+    let r = free-taken c l x (omega (arith, eqb-ne {x = code x} {y = c} k)) e in
+    split (any (has c) l)
+    (λ y. rw (y, any-left (has c) l (x ∷ []) y) (omega arith))
+    (λ y.
+    split (any (has c) (l ++ (x ∷ [])))
+    (λ z. rw (y, z) (omega arith))
+    (λ z. rw (y, z) (omega arith))))
 
 -- ---- the pairs that are new
 abbrev Low : Pair → Type 0
@@ -81,9 +81,9 @@ any-code x g (cons {x = y} h a) e =
     split (eqb (code y) (code x))
     (λ k. absurd (clash (rw (same-code x y g h (eqb-true (code y) (code x) k)) at e)))
     (λ k.
-      rw k
-      (any-code x g a
-      (split (same-pair x y) (λ z. absurd (clash (rw z at e))) (λ z. rw z at e))))
+    rw k
+    (any-code x g a
+    (split (same-pair x y) (λ z. absurd (clash (rw z at e))) (λ z. rw z at e))))
 
 new-few : {m l : List Pair} → All Low m → All Low l → length (new-pairs m l) ≤ free 16777216 l
 unfolding new-pairs
@@ -92,8 +92,8 @@ new-few {l = l} (cons {x = x} {l = m} h a) b =
     split (any (same-pair x) l)
     (λ e. rw (e, append-nil l) (new-few a b))
     (λ e.
-      rw e
-      (omega (arith, free-taken 16777216 l x (omega arith) (any-code x h b e), new-few a (all-append b (cons h nil)))))
+    rw e
+    (omega (arith, free-taken 16777216 l x (omega arith) (any-code x h b e), new-few a (all-append b (cons h nil)))))
 
 -- ---- the numbers of mandatory variables
 index-low : (m : List (List ℕ)) (n : List ℕ) → member n m ≡ true → index m n < length m
@@ -103,9 +103,12 @@ index-low (x ∷ m) n e =
     split (sameb x n)
     (λ k. rw k (omega arith))
     (λ k.
-      rw k
-      (omega (arith, index-low m n
-      (split (sameb n x) (λ z. absurd (clash (sym (eq-same x n (sym (same-eq n x z))) ∙ k))) (λ z. rw z at e)))))
+    rw k
+    (omega (
+      arith,
+      index-low m n
+          (split (sameb n x) (λ z. absurd (clash (sym (eq-same x n (sym (same-eq n x z))) ∙ k))) (λ z. rw z at e)),
+    )))
 
 mandatory-low : (m d : List (List ℕ)) → All (λ n. n < length m) (mandatory-in m d)
 unfolding keep

@@ -141,18 +141,18 @@ bytes-of t x y z tp tq p q e a b c d =
     let j : ((0 + length (k .before)) + length (tp .bytes)) + length (v .before) + length (tq .bytes) ≡ q + 2 = omega arith in
     record {
       parts =
-        record {
-          front = k .before;
-          body = v .before;
-          back = v .behind;
-          text =
-            k .bytes
-            ∙ ap (λ (r : List ℕ). k .before ++ (r ++ k .behind)) a
-            ∙ ap (λ (r : List ℕ). k .before ++ (36 ∷ 123 ∷ r)) (v .bytes)
-            ∙ ap (λ (r : List ℕ). k .before ++ (36 ∷ 123 ∷ (v .before ++ (r ++ v .behind)))) c;
-          from = f;
-          to = h;
-        };
+          record {
+            front = k .before;
+            body = v .before;
+            back = v .behind;
+            text =
+                k .bytes
+                ∙ ap (λ (r : List ℕ). k .before ++ (r ++ k .behind)) a
+                ∙ ap (λ (r : List ℕ). k .before ++ (36 ∷ 123 ∷ r)) (v .bytes)
+                ∙ ap (λ (r : List ℕ). k .before ++ (36 ∷ 123 ∷ (v .before ++ (r ++ v .behind)))) c;
+            from = f;
+            to = h;
+          };
       toks-front = k .left;
       toks-body = ap (toks (v .before)) (sym g) ∙ v .left;
       toks-back = ap (toks (v .behind)) (sym j) ∙ v .right;
@@ -211,24 +211,24 @@ split-by t p q i o b l y out =
       items-are = o .items;
       level = o .level;
       front-at =
-        reads-at (λ n. n < p) (b .read-before)
-        (shown-at (k .front) 0 (λ n. n < p) (λ n g h. omega (arith, k .from)) (y .toks-front) (l .shown-before))
-        (λ n g. g);
+          reads-at (λ n. n < p) (b .read-before)
+          (shown-at (k .front) 0 (λ n. n < p) (λ n g h. omega (arith, k .from)) (y .toks-front) (l .shown-before))
+          (λ n g. g);
       body-at =
-        reads-at (λ n. (p ≤ n) × (n < q)) (b .read-middle)
-        (shown-at (k .body) (p + 2) (λ n. (p ≤ n) × (n < q)) (λ n g h. (omega arith, omega (arith, k .to))) (y .toks-body) (l .shown-middle))
-        (λ n g. g);
+          reads-at (λ n. (p ≤ n) × (n < q)) (b .read-middle)
+          (shown-at (k .body) (p + 2) (λ n. (p ≤ n) × (n < q)) (λ n g h. (omega arith, omega (arith, k .to))) (y .toks-body) (l .shown-middle))
+          (λ n g. g);
       back-at =
-        reads-at (λ n. q < n) (b .read-behind)
-        (shown-at (k .back) (q + 2) (λ n. q < n) (λ n g h. omega arith) (y .toks-back) (l .shown-behind))
-        (λ n g. g);
+          reads-at (λ n. q < n) (b .read-behind)
+          (shown-at (k .back) (q + 2) (λ n. q < n) (λ n g h. omega arith) (y .toks-back) (l .shown-behind))
+          (λ n g. g);
       fewer =
-        rw (z, l .tokens) (fewer-tokens (l .before) (l .middle) (l .behind) (b .left-brace) (b .right-brace));
+          rw (z, l .tokens) (fewer-tokens (l .before) (l .middle) (l .behind) (b .left-brace) (b .right-brace));
       blanked-read =
-        λ n.
-        rw z
-        (read-items n
-        (joined (l .before) (l .behind) (l .shown-before) (l .out-before) (l .shown-behind) (sym (l .out-behind) ∙ out) (b .read-before) (b .read-behind)));
+          λ n.
+          rw z
+          (read-items n
+          (joined (l .before) (l .behind) (l .shown-before) (l .out-before) (l .shown-behind) (sym (l .out-behind) ∙ out) (b .read-before) (b .read-behind)));
     }
 
 pub read-reads : {l : List Token} {i : List Item} → Read l i → Reads (visible l outside) start 0 i start 0

@@ -57,8 +57,8 @@ short-by $f w v s h =
     (accept-short (check-float w v s) _
     (cons
     (λ c.
-      stub-short (s .at) (s .end) (s .label) (token s 0 .bytes) (token s 1 .bytes)
-      (omega (arith, two-light s (s .math) refl)))
+    stub-short (s .at) (s .end) (s .label) (token s 0 .bytes) (token s 1 .bytes)
+    (omega (arith, two-light s (s .math) refl)))
     nil))
 short-by $e w v s h = unless-short (check-label w s) _ (accept-short (check-expression w v s) _ nil)
 short-by $a w v s h =
@@ -138,15 +138,15 @@ pub exact : (t : List ℕ) (w : ℕ) (l : List Statement) → Passed t w l → f
 exact t w l h c p q =
     let e = h .statements in
     let a : All (λ s. s .at < 4294967296) l =
-      rw e (all-map (λ s k. omega (arith, h .small)) (text-at t (h .read) (h .reads))) in
+    rw e (all-map (λ s k. omega (arith, h .small)) (text-at t (h .read) (h .reads))) in
     let b : statements-weight l ≤ 16777217 = rw e (omega (arith, text-weight t (h .read) (h .reads), h .small)) in
     record {
       frames = frame-stream-is (all-given l);
       diags = diag-stream-is (all-given l);
       frames-stay =
-        ap (taken-out p q) (frame-stream-is (all-given l)) ∙ taken-gather frame-record frame-at p q (frames-sound a b c);
+          ap (taken-out p q) (frame-stream-is (all-given l)) ∙ taken-gather frame-record frame-at p q (frames-sound a b c);
       diags-stay =
-        ap (taken-out p q) (diag-stream-is (all-given l)) ∙ taken-gather diag-record (λ x. x .statement) p q (diags-sound a);
+          ap (taken-out p q) (diag-stream-is (all-given l)) ∙ taken-gather diag-record (λ x. x .statement) p q (diags-sound a);
     }
 
 pub walked : Walked

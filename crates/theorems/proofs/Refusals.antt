@@ -7,7 +7,7 @@ use mathlib.Core.Option.{Option, none, some}
 use Prim.Native.Nat.{ℕ, zero, suc, _+_, _<_, _≤_}
 use native.Mathlib.Omega.{arith}
 use lib.Dec.{ltb}
-use lib.ListN.{length}
+use lib.ListN.{length, replicate}
 use borrow.Author.Tests.{le-ltb, ltb-false}
 use Rattle.paper.specs.Base.{choose, or, find}
 use Rattle.paper.specs.Bytes.{white, printable}
@@ -19,7 +19,7 @@ use Rattle.paper.specs.Give.{Given, all-given}
 use Rattle.paper.specs.Answer.{refusal-number, number, crowded, frame-at, frames-in, Streams, fitting, streams, numbered, written, written-of, outcome, answer-of, answer}
 use Rattle.paper.specs.declared.Refusal.{Refusal}
 use Rattle.paper.specs.declared.Refusal.the-variants.{LongText, ShortWork, BadByte, OpenComment, BadToken, OpenText, ManyVariables, ShortFrames, ShortDiags}
-use Rattle.paper.proofs.Tests.{split, by-option}
+use Rattle.paper.proofs.Tests.{split, by-option, clash}
 use Rattle.paper.proofs.All.{All, nil, cons}
 
 -- ---- an outcome is a refusal or given
@@ -29,6 +29,28 @@ by-outcome (given a) f g = g a refl
 
 pub not-given : {A P : Type 0} {r : Refusal} {a : A} → refused r ≡ given a → P
 not-given e = let c : _≡_ {A = ℕ} 0 1 = cc in absurd (omega arith)
+
+-- ---- number 3: white space and printable bytes only
+abbrev pub Good : ℕ → Type 0
+Good b = or (white b) (printable b) ≡ true
+
+pub clean-good : (l : List ℕ) (o : ℕ) → bad-from l o ≡ none → All Good l
+unfolding bad-from
+clean-good [] o e = nil
+clean-good (b ∷ l) o e =
+    split (or (white b) (printable b))
+    (λ h. cons h (clean-good l (suc o) (rw h at e)))
+    (λ h. let z : some o ≡ none = rw h at e in let y : true ≡ false = cc in absurd (clash y))
+
+pub good-clean : {l : List ℕ} → All Good l → (o : ℕ) → bad-from l o ≡ none
+unfolding bad-from
+good-clean nil o = refl
+good-clean (cons h a) o = rw h (good-clean a (suc o))
+
+pub blanks-good : (n : ℕ) → All Good (replicate n 32)
+unfolding white printable
+blanks-good zero = nil
+blanks-good (suc n) = cons refl (blanks-good n)
 
 -- ---- numbers 1 to 6
 pub record Passed (t : List ℕ) (w : ℕ) (l : List Statement) : Type 0 where
@@ -49,19 +71,19 @@ passed t w l e =
     split (ltb 16777216 (length t))
     (λ a. not-given {A = List Statement} {r = LongText} {a = l} (rw a at e))
     (λ a. split (ltb w (words t))
-      (λ b. not-given {A = List Statement} {r = ShortWork (words t)} {a = l} (rw (a, b) at e))
-      (λ b. by-option (bad-from t 0)
-        (λ o c. not-given {A = List Statement} {r = BadByte o} {a = l} (rw (a, b, c) at e))
-        (λ c.
-          let k = ended-given (items (tokens t) (length t)) (rw (a, b, c) at e) in
-          record {
-            small = ltb-false 16777216 (length t) a;
-            room = ltb-false w (words t) b;
-            clean = c;
-            read = k .0;
-            reads = k .1;
-            statements = k .2;
-          })))
+    (λ b. not-given {A = List Statement} {r = ShortWork (words t)} {a = l} (rw (a, b) at e))
+    (λ b. by-option (bad-from t 0)
+    (λ o c. not-given {A = List Statement} {r = BadByte o} {a = l} (rw (a, b, c) at e))
+    (λ c.
+    let k = ended-given (items (tokens t) (length t)) (rw (a, b, c) at e) in
+    record {
+      small = ltb-false 16777216 (length t) a;
+      room = ltb-false w (words t) b;
+      clean = c;
+      read = k .0;
+      reads = k .1;
+      statements = k .2;
+    })))
 
 pub passing : (t : List ℕ) (w : ℕ) (l : List Statement) → Passed t w l → reading t w ≡ given l
 unfolding reading
@@ -79,10 +101,10 @@ fitted l f d s e =
     split (ltb f (length (streams l .frames)))
     (λ a. not-given {A = Streams} {r = ShortFrames (length (streams l .frames))} {a = s} (rw a at e))
     (λ a. split (ltb d (length (streams l .diags)))
-      (λ b. not-given {A = Streams} {r = ShortDiags (length (streams l .diags))} {a = s} (rw (a, b) at e))
-      (λ b.
-        let g : given (streams l) ≡ given s = rw (a, b) at e in
-        (ltb-false f (length (streams l .frames)) a, ltb-false d (length (streams l .diags)) b, cc)))
+    (λ b. not-given {A = Streams} {r = ShortDiags (length (streams l .diags))} {a = s} (rw (a, b) at e))
+    (λ b.
+    let g : given (streams l) ≡ given s = rw (a, b) at e in
+    (ltb-false f (length (streams l .frames)) a, ltb-false d (length (streams l .diags)) b, cc)))
 
 pub fits : (l : List Given) (f d : ℕ) (s : Streams) → written l f d ≡ given s → Fits l f d × (streams l ≡ s)
 unfolding written
@@ -90,8 +112,8 @@ fits l f d s e =
     by-option (find crowded (frames-in l))
     (λ x a. not-given {A = Streams} {r = ManyVariables (frame-at x)} {a = s} (rw a at e))
     (λ a.
-      let k = fitted l f d s (rw a at e) in
-      (record { uncrowded = a; frames-fit = k .0; diags-fit = k .1 }, k .2))
+    let k = fitted l f d s (rw a at e) in
+    (record { uncrowded = a; frames-fit = k .0; diags-fit = k .1 }, k .2))
 
 pub fitting-fits : (l : List Given) (f d : ℕ) → Fits l f d → written l f d ≡ given (streams l)
 unfolding written
@@ -111,8 +133,8 @@ answered t w f d s e =
     by-outcome (reading t w)
     (λ r a. not-given {A = Streams} {r = r} {a = s} (rw a at e))
     (λ l a.
-      let k = fits (all-given l) f d s (rw a at e) in
-      record { statements = l; passes = a; fit = k .0; are = k .1 })
+    let k = fits (all-given l) f d s (rw a at e) in
+    record { statements = l; passes = a; fit = k .0; are = k .1 })
 
 pub answering : (t : List ℕ) (w f d : ℕ) (l : List Statement) → reading t w ≡ given l → Fits (all-given l) f d → outcome t w f d ≡ given (streams (all-given l))
 unfolding outcome

@@ -96,9 +96,11 @@ module _ (w x : List Statement) (d : declared w ≡ declared x) where
   unfolding give-c give-v give-d give-f give-e give-assertion check-outer
   give-same-by $c s e l m v = rw (each-same (outer-token w (s .at)) (outer-token x (s .at)) (outer-same (s .at)) (rw e at m) 0)
   give-same-by $v s e l m v =
-      rw (each-same (outer-token w (s .at)) (outer-token x (s .at)) (outer-same (s .at)) (rw e at m) 0,
+      rw (
+        each-same (outer-token w (s .at)) (outer-token x (s .at)) (outer-same (s .at)) (rw e at m) 0,
         diags-same (s .at) (s .end) (rw e at m) 0 (v .nested),
-        records-same (s .end) (s .math) (v .nested))
+        records-same (s .end) (s .math) (v .nested),
+      )
   give-same-by $d s e l m v = rw (disjoint-same v s)
   give-same-by $f s e l m v = rw (label-same s (all-head (rw e at l)), float-same v s)
   give-same-by $e s e l m v = rw (label-same s (all-head (rw e at l)), expression-same v s, formula-same v s)
@@ -125,42 +127,54 @@ module _ {w x : List Statement} {p q : ℕ} (h : Three w x p q) where
   inside-are =
       ap (keep (inside p q)) (h .whole)
       ∙ (keep-append (inside p q) (h .before) (h .within-it ++ h .behind)
-      ∙ rw (keep-none (inside p q) (all-map (λ s k. below-it p q (s .at) k) (h .before-at)),
+      ∙ rw (
+        keep-none (inside p q) (all-map (λ s k. below-it p q (s .at) k) (h .before-at)),
         keep-append (inside p q) (h .within-it) (h .behind),
         keep-all (inside p q) (all-map (λ s k. within-it p q (s .at) (k .0) (omega (arith, k .1))) (h .within-at)),
         keep-none (inside p q) (all-map (λ s k. beyond-it p q (s .at) k) (h .behind-at)),
-        append-nil))
+        append-nil,
+      ))
 
   outside-are : keep (outside p q) w ≡ x
   outside-are =
       ap (keep (outside p q)) (h .whole)
       ∙ (keep-append (outside p q) (h .before) (h .within-it ++ h .behind)
-      ∙ rw (keep-all (outside p q) (all-map (λ s k. ap not (below-it p q (s .at) k)) (h .before-at)),
+      ∙ rw (
+        keep-all (outside p q) (all-map (λ s k. ap not (below-it p q (s .at) k)) (h .before-at)),
         keep-append (outside p q) (h .within-it) (h .behind),
         keep-none (outside p q) (all-map (λ s k. ap not (within-it p q (s .at) (k .0) (omega (arith, k .1)))) (h .within-at)),
-        keep-all (outside p q) (all-map (λ s k. ap not (beyond-it p q (s .at) k)) (h .behind-at)))
+        keep-all (outside p q) (all-map (λ s k. ap not (beyond-it p q (s .at) k)) (h .behind-at)),
+      )
       (sym (h .without)))
 
   -- ---- W1: the group declares nothing globally
   pub globals-same : q < none-end → declared w ≡ declared x
   unfolding declared outermost
   globals-same k =
-      rw (h .whole, h .without, gather-append declarations (h .before) (h .within-it ++ h .behind),
+      rw (
+        h .whole,
+        h .without,
+        gather-append declarations (h .before) (h .within-it ++ h .behind),
         gather-append declarations (h .within-it) (h .behind),
         gather-none declarations (all-map (λ s e. rw (ne-eqb (s .end) none-end (omega arith))) (h .within-end)),
-        gather-append declarations (h .before) (h .behind))
+        gather-append declarations (h .before) (h .behind),
+      )
 
   -- ---- W2: a name not borne in the group has the same owner
   pub owner-same : (n : List ℕ) → borne n (h .within-it) ≡ false → owner w n ≡ owner x n
   unfolding owner labels
   owner-same n e =
-      rw (h .whole, h .without, gather-append bearer (h .before) (h .within-it ++ h .behind),
+      rw (
+        h .whole,
+        h .without,
+        gather-append bearer (h .before) (h .within-it ++ h .behind),
         gather-append bearer (h .within-it) (h .behind),
         gather-append bearer (h .before) (h .behind),
         find-append (named n) (gather bearer (h .before)) (gather bearer (h .within-it) ++ gather bearer (h .behind)),
         find-append (named n) (gather bearer (h .within-it)) (gather bearer (h .behind)),
         find-any (named n) (gather bearer (h .within-it)) e,
-        find-append (named n) (gather bearer (h .before)) (gather bearer (h .behind)))
+        find-append (named n) (gather bearer (h .before)) (gather bearer (h .behind)),
+      )
 
 -- what holds of the names of some tokens holds of each
 named-all : (Q : List ℕ → Type 0) (l : List Token) → ((n : List ℕ) → any (named n) l ≡ true → Q n) → All (λ t. Q (t .bytes)) l
@@ -180,11 +194,11 @@ agree {w} {x} {p} {q} h k a =
     let g = globals-same h k in
     let free : (n : List ℕ) → borne n (h .within-it) ≡ false → owner w n ≡ owner x n = owner-same h in
     let one : All (λ t. owner w (t .bytes) ≡ owner x (t .bytes)) (labels x) =
-      named-all (λ n. owner w n ≡ owner x n) (labels x)
-      (λ n e. free n (refuted (rw (inside-are h, outside-are h) at (a .labels-apart n)) e)) in
+    named-all (λ n. owner w n ≡ owner x n) (labels x)
+    (λ n e. free n (refuted (rw (inside-are h, outside-are h) at (a .labels-apart n)) e)) in
     let two : All (λ t. owner w (t .bytes) ≡ owner x (t .bytes)) (gather symbols x) =
-      named-all (λ n. owner w n ≡ owner x n) (gather symbols x)
-      (λ n e. free n (refuted (rw (inside-are h, outside-are h) at (a .symbols-apart n)) e)) in
+    named-all (λ n. owner w n ≡ owner x n) (gather symbols x)
+    (λ n e. free n (refuted (rw (inside-are h, outside-are h) at (a .symbols-apart n)) e)) in
     both g (all-ungather bearer x one) (all-ungather symbols x two)
   where
     both : {w x l : List Statement} → declared w ≡ declared x → All (λ s. All (λ t. owner w (t .bytes) ≡ owner x (t .bytes)) (bearer s)) l → All (λ s. All (λ t. owner w (t .bytes) ≡ owner x (t .bytes)) (symbols s)) l → All (Agree w x) l
