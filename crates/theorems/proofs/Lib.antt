@@ -13,3 +13,4 @@ pub mod Lengths
 pub mod Refusals
 pub mod Records
 pub mod Demand3
+pub mod Examples

@@ -66,7 +66,14 @@ borne n l = any (named n) (labels l)
 abbrev pub declared-in : List ℕ → List Statement → Bool
 declared-in n l = any (named n) (gather symbols l)
 
--- no label borne by a statement inside is borne by one outside, or is a math token of a `$c` or `$v` outside
+-- no label borne by a statement inside is borne by one outside
+abbrev pub LabelsApart : List Statement → ℕ → ℕ → Type 0
+LabelsApart l p q = (n : List ℕ) → borne n (keep (inside p q) l) ≡ true → borne n (keep (outside p q) l) ≡ false
+
+-- or is a math token of a `$c` or `$v` outside
+abbrev pub SymbolsApart : List Statement → ℕ → ℕ → Type 0
+SymbolsApart l p q = (n : List ℕ) → borne n (keep (inside p q) l) ≡ true → declared-in n (keep (outside p q) l) ≡ false
+
 pub record Apart (l : List Statement) (p q : ℕ) : Type 0 where
-  pub labels-apart : (n : List ℕ) → borne n (keep (inside p q) l) ≡ true → borne n (keep (outside p q) l) ≡ false
-  pub symbols-apart : (n : List ℕ) → borne n (keep (inside p q) l) ≡ true → declared-in n (keep (outside p q) l) ≡ false
+  pub labels-apart : LabelsApart l p q
+  pub symbols-apart : SymbolsApart l p q

@@ -1,3 +1,4 @@
 pub mod Groups
 pub mod TakenOut
 pub mod Demand3
+pub mod Examples
