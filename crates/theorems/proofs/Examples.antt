@@ -45,38 +45,38 @@ unfolding sameb all any keep find latest gather table white printable label-byte
 examples =
     record {
       labels-needed =
-        record {
-          done = refl;
-          group = record { read = items-of label-text; reads = refl; own = refl };
-          half = λ n e. refl;
-          fails = λ b. let z : _≡_ {A = ℕ} 2 1 = same-kind b in omega arith;
-        };
+          record {
+            done = refl;
+            group = record { read = items-of label-text; reads = refl; own = refl };
+            half = λ n e. refl;
+            fails = λ b. let z : _≡_ {A = ℕ} 2 1 = same-kind b in omega arith;
+          };
       symbols-needed =
-        record {
-          done = refl;
-          group = record { read = items-of symbol-text; reads = refl; own = refl };
-          half = λ n e. refl;
-          fails = λ b. let z : _≡_ {A = ℕ} 0 5 = same-kind b in omega arith;
-        };
+          record {
+            done = refl;
+            group = record { read = items-of symbol-text; reads = refl; own = refl };
+            half = λ n e. refl;
+            fails = λ b. let z : _≡_ {A = ℕ} 0 5 = same-kind b in omega arith;
+          };
       inner-group =
-        record {
-          group = record { read = items-of nested-text; reads = refl; own = refl };
-          before = refl;
-          after = refl;
-          streams = refl;
-        };
+          record {
+            group = record { read = items-of nested-text; reads = refl; own = refl };
+            before = refl;
+            after = refl;
+            streams = refl;
+          };
       outer-group =
-        record {
-          group = record { read = items-of nested-text; reads = refl; own = refl };
-          before = refl;
-          after = refl;
-          streams = refl;
-        };
+          record {
+            group = record { read = items-of nested-text; reads = refl; own = refl };
+            before = refl;
+            after = refl;
+            streams = refl;
+          };
       nested-variable =
-        record {
-          group = record { read = items-of variable-text; reads = refl; own = refl };
-          before = refl;
-          after = refl;
-          streams = refl;
-        };
+          record {
+            group = record { read = items-of variable-text; reads = refl; own = refl };
+            before = refl;
+            after = refl;
+            streams = refl;
+          };
     }

@@ -156,7 +156,7 @@ pub record Parted (w x : List Statement) (h : List Statement) (i : List Statemen
 pub parted : {w x : List Statement} {p q : ℕ} (h : Three w x p q) → q < none-end → Apart w p q → Parted w x (h .before) (h .within-it) (h .behind)
 unfolding all-given
 parted {w} {x} {p} {q} h k a =
-    let g : All (Agree w x) (h .before ++ h .behind) = subst (All (Agree w x)) (h .without) (agree h k a) in
+    let g : All (Agree w x) (h .before ++ h .behind) = subst (All (Agree w x)) (h .without) (agree h a k) in
     let b = before-same (all-left (h .before) (h .behind) g) nothing in
     let first = later w (h .before) nothing in
     let third = later w (h .within-it) first in

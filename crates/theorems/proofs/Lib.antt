@@ -14,3 +14,4 @@ pub mod Refusals
 pub mod Records
 pub mod Demand3
 pub mod Examples
+pub mod Unique

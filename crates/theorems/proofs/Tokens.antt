@@ -12,7 +12,7 @@ use Rattle.paper.specs.Bytes.{white}
 use Rattle.paper.specs.Answer.{laid}
 use Rattle.paper.specs.Tokens.{Token, Run, put, prefix, run, toks}
 use Rattle.paper.proofs.Tests.{split}
-use Rattle.theorems.specs.Groups.{blanked}
+use Rattle.theorems.specs.Groups.{span, blanked}
 use Rattle.paper.proofs.All.{All, nil, cons, all-map, not-nil}
 
 -- ---- T1, T2: cut at white space
@@ -203,7 +203,7 @@ pub record Parts (t : List ℕ) (p q : ℕ) : Type 0 where
 pub blanked-parts : {t : List ℕ} {p q : ℕ} (x : Parts t p q) → blanked t p q ≡ x .front ++ (replicate (4 + length (x .body)) 32 ++ x .back)
 unfolding blanked laid
 blanked-parts {t} {p} {q} x =
-    let n : (q + 2) - p ≡ 4 + length (x .body) = omega (arith, x .to) in
+    let n : span p q ≡ 4 + length (x .body) = omega (arith, x .to) in
     let i : p + (4 + length (x .body)) ≡ length (x .front) + suc (suc (length (x .body) + 2)) = omega (arith, x .from) in
     let a : take p t ≡ x .front = ap (take p) (x .text) ∙ take-at (x .front) _ p (sym (x .from)) in
     let b : drop (p + (4 + length (x .body))) t ≡ x .back =

@@ -24,10 +24,13 @@ use Rattle.theorems.specs.Groups.{inside, outside, symbols-by, symbols, 
 use Rattle.theorems.proofs.Parts.{Three}
 
 -- ---- W3: what is asked of the whole text
+abbrev pub SameOwner : List Statement → List Statement → Token → Type 0
+SameOwner w x t = owner w (t .bytes) ≡ owner x (t .bytes)
+
 pub record Agree (w x : List Statement) (s : Statement) : Type 0 where
   pub globals : declared w ≡ declared x
-  pub label-owner : All (λ t. owner w (t .bytes) ≡ owner x (t .bytes)) (bearer s)
-  pub symbol-owners : All (λ t. owner w (t .bytes) ≡ owner x (t .bytes)) (symbols s)
+  pub label-owner : All (SameOwner w x) (bearer s)
+  pub symbol-owners : All (SameOwner w x) (symbols s)
 
 each-same : {P : Token → Type 0} (f g : ℕ → Token → List Diag) → ((i : ℕ) (t : Token) → P t → f i t ≡ g i t) → {l : List Token} → All P l → (i : ℕ) → each f l i ≡ each g l i
 unfolding each
@@ -60,7 +63,7 @@ module _ (w x : List Statement) (d : declared w ≡ declared x) where
   records-same e [] k = refl
   records-same e (t ∷ l) k = rw (verdict-same k t, records-same e l _)
 
-  diags-same : (s e : ℕ) {l : List Token} → All (λ t. owner w (t .bytes) ≡ owner x (t .bytes)) l → (i : ℕ) (k : List Nested) → nested-diags w s e l i k ≡ nested-diags x s e l i k
+  diags-same : (s e : ℕ) {l : List Token} → All (SameOwner w x) l → (i : ℕ) (k : List Nested) → nested-diags w s e l i k ≡ nested-diags x s e l i k
   unfolding nested-diags records
   diags-same s e nil i k = refl
   diags-same s e (cons {x = t} o a) i k = rw (o, verdict-same k t, diags-same s e a (suc i) _)
@@ -92,7 +95,7 @@ module _ (w x : List Statement) (d : declared w ≡ declared x) where
   unfolding check-label
   label-same s o = rw o
 
-  give-same-by : (k : Kind) (s : Statement) → s .kind ≡ k → All (λ t. owner w (t .bytes) ≡ owner x (t .bytes)) (bearer s) → All (λ t. owner w (t .bytes) ≡ owner x (t .bytes)) (symbols s) → (v : State) → give-by k w v s ≡ give-by k x v s
+  give-same-by : (k : Kind) (s : Statement) → s .kind ≡ k → All (SameOwner w x) (bearer s) → All (SameOwner w x) (symbols s) → (v : State) → give-by k w v s ≡ give-by k x v s
   unfolding give-c give-v give-d give-f give-e give-assertion check-outer
   give-same-by $c s e l m v = rw (each-same (outer-token w (s .at)) (outer-token x (s .at)) (outer-same (s .at)) (rw e at m) 0)
   give-same-by $v s e l m v =
@@ -188,19 +191,26 @@ refuted : {a b : Bool} → (a ≡ true → b ≡ false) → b ≡ true → a ≡
 refuted {a} {b} f e = split a (λ k. let z : b ≡ false = f k in cc) (λ k. k)
 
 -- ---- W4: the premise of demand 3 suffices
-pub agree : {w x : List Statement} {p q : ℕ} → Three w x p q → q < none-end → Apart w p q → All (Agree w x) x
-unfolding labels
-agree {w} {x} {p} {q} h k a =
-    let g = globals-same h k in
-    let free : (n : List ℕ) → borne n (h .within-it) ≡ false → owner w n ≡ owner x n = owner-same h in
-    let one : All (λ t. owner w (t .bytes) ≡ owner x (t .bytes)) (labels x) =
-    named-all (λ n. owner w n ≡ owner x n) (labels x)
-    (λ n e. free n (refuted (rw (inside-are h, outside-are h) at (a .labels-apart n)) e)) in
-    let two : All (λ t. owner w (t .bytes) ≡ owner x (t .bytes)) (gather symbols x) =
-    named-all (λ n. owner w n ≡ owner x n) (gather symbols x)
-    (λ n e. free n (refuted (rw (inside-are h, outside-are h) at (a .symbols-apart n)) e)) in
-    both g (all-ungather bearer x one) (all-ungather symbols x two)
-  where
-    both : {w x l : List Statement} → declared w ≡ declared x → All (λ s. All (λ t. owner w (t .bytes) ≡ owner x (t .bytes)) (bearer s)) l → All (λ s. All (λ t. owner w (t .bytes) ≡ owner x (t .bytes)) (symbols s)) l → All (Agree w x) l
-    both g nil nil = nil
-    both g (cons a b) (cons c d) = cons (record { globals = g; label-owner = a; symbol-owners = c }) (both g b d)
+both : {w x l : List Statement} → declared w ≡ declared x → All (λ s. All (SameOwner w x) (bearer s)) l → All (λ s. All (SameOwner w x) (symbols s)) l → All (Agree w x) l
+both g nil nil = nil
+both g (cons a b) (cons c d) = cons (record { globals = g; label-owner = a; symbol-owners = c }) (both g b d)
+
+module _ {w x : List Statement} {p q : ℕ} (h : Three w x p q) (a : Apart w p q) where
+  labels-free : All (SameOwner w x) (labels x)
+  labels-free =
+      named-all (λ n. owner w n ≡ owner x n) (labels x)
+      (λ n e.
+      owner-same h n
+      (refuted (λ k. sym (ap (borne n) (outside-are h)) ∙ a .labels-apart n (ap (borne n) (inside-are h) ∙ k)) e))
+
+  symbols-free : All (SameOwner w x) (gather symbols x)
+  symbols-free =
+      named-all (λ n. owner w n ≡ owner x n) (gather symbols x)
+      (λ n e.
+      owner-same h n
+      (refuted (λ k. sym (ap (declared-in n) (outside-are h)) ∙ a .symbols-apart n (ap (borne n) (inside-are h) ∙ k)) e))
+
+  pub agree : q < none-end → All (Agree w x) x
+  unfolding labels
+  agree k =
+      both (globals-same h k) (all-ungather bearer x labels-free) (all-ungather symbols x symbols-free)

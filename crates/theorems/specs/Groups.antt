@@ -36,8 +36,11 @@ abbrev pub statements : {t : List ℕ} {p q : ℕ} → Group t p q → List Stat
 statements g = ends (g .read) []
 
 -- the text with bytes p to q + 1 overwritten by 32
+abbrev pub span : ℕ → ℕ → ℕ
+span p q = (q + 2) - p
+
 unfoldable pub blanked : List ℕ → ℕ → ℕ → List ℕ
-blanked t p q = laid t p (replicate ((q + 2) - p) 32)
+blanked t p q = laid t p (replicate (span p q) 32)
 
 -- ---- statements inside the group, and the others
 abbrev pub inside : ℕ → ℕ → Statement → Bool

@@ -2,3 +2,4 @@ pub mod Groups
 pub mod TakenOut
 pub mod Demand3
 pub mod Examples
+pub mod Unique
