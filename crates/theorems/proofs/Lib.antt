@@ -15,3 +15,5 @@ pub mod Records
 pub mod Demand3
 pub mod Examples
 pub mod Unique
+pub mod Order
+pub mod Nesting
