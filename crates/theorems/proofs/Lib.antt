@@ -17,3 +17,4 @@ pub mod Examples
 pub mod Unique
 pub mod Order
 pub mod Nesting
+pub mod Invariants

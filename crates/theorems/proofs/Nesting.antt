@@ -112,7 +112,7 @@ lives (cons {x = states s} h b) (then {l = i} a r) =
     (top-above h (closers-at (λ n. s .at < n) a), top-capped (closers-at (λ n. n < none-end) b)) (lives b r)
 
 -- ---- all of it, of a text that is read
-pub record Nested (l : List Statement) : Type 0 where
+pub record Ranked (l : List Statement) : Type 0 where
   pub rise : Pairwise Before l
   pub nest : Pairwise Nests l
   pub live : All Lives l
@@ -124,13 +124,13 @@ low-items t i h e =
     (shown-at t 0 (λ n. n < none-end) (λ n g k. omega arith) refl refl)
     (λ n g. g)
 
-nested-items : (t : List ℕ) (i : List Item) → length t ≤ 16777216 → items (tokens t) (length t) ≡ given i → Nested (ends i [])
-nested-items t i h e =
+ranked-items : (t : List ℕ) (i : List Item) → length t ≤ 16777216 → items (tokens t) (length t) ≡ given i → Ranked (ends i [])
+ranked-items t i h e =
     let a = low-items t i h e in
     let r = items-rise t i e in
     record { rise = statements-rise t i e; nest = nests a r; live = lives a r }
 
-pub nested : (t : List ℕ) (w : ℕ) (l : List Statement) → reading t w ≡ given l → Nested l
-nested t w l e =
+pub ranked : (t : List ℕ) (w : ℕ) (l : List Statement) → reading t w ≡ given l → Ranked l
+ranked t w l e =
     let h = passed t w l e in
-    rw (h .statements) (nested-items t (h .read) (h .small) (h .reads))
+    rw (h .statements) (ranked-items t (h .read) (h .small) (h .reads))
