@@ -30,6 +30,9 @@ all-map f (cons {x = x} h a) = cons (f x h) (all-map f a)
 pub all-head : {A : Type 0} {P : A → Type 0} {x : A} {l : List A} → All P (x ∷ l) → P x
 all-head (cons h a) = h
 
+pub all-tail : {A : Type 0} {P : A → Type 0} {x : A} {l : List A} → All P (x ∷ l) → All P l
+all-tail (cons h a) = a
+
 pub all-both : {A : Type 0} {P Q : A → Type 0} {l : List A} → All P l → All Q l → All (λ x. P x × Q x) l
 all-both nil nil = nil
 all-both (cons h a) (cons k b) = cons (h, k) (all-both a b)

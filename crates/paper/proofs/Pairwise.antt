@@ -8,8 +8,8 @@ use native.Mathlib.Nat.{not-suc-le-zero, le-of-suc-le-suc}
 use native.Mathlib.Omega.{arith}
 use lib.ListN.{length, getD}
 use Rattle.paper.specs.Base.{choose, keep}
-use Rattle.paper.proofs.Tests.{split}
-use Rattle.paper.proofs.All.{All, nil, cons, all-append, all-left, all-right}
+use Rattle.paper.proofs.Tests.{split, clash}
+use Rattle.paper.proofs.All.{All, nil, cons, all-append, all-map, all-head, all-tail}
 
 pub data Pairwise {A : Type 0} (R : A → A → Type 0) : List A → Type 0 where
   alone : Pairwise R []
@@ -31,11 +31,24 @@ pub pairwise-right : {A : Type 0} {R : A → A → Type 0} (l m : List A) → Pa
 pairwise-right [] m p = p
 pairwise-right (x ∷ l) m (then a p) = pairwise-right l m p
 
+-- of each with each, the other way round
+pub all-turn : {A B : Type 0} {R : A → B → Type 0} (l : List A) {m : List B} → All (λ y. All (λ x. R x y) l) m → All (λ x. All (R x) m) l
+all-turn [] k = nil
+all-turn (x ∷ l) k = cons (all-map (λ y g. all-head g) k) (all-turn l (all-map (λ y g. all-tail g) k))
+
 -- of those that pass a test
 pub all-keep : {A : Type 0} {P : A → Type 0} (t : A → Bool) {l : List A} → All P l → All (λ x. P x × (t x ≡ true)) (keep t l)
 unfolding keep
 all-keep t nil = nil
 all-keep t (cons {x = x} h a) = split (t x) (λ e. rw e (cons (h, e) (all-keep t a))) (λ e. rw e (all-keep t a))
+
+pub all-unkeep : {A : Type 0} {P : A → Type 0} (t : A → Bool) (l : List A) → All P (keep t l) → All (λ x. t x ≡ true → P x) l
+unfolding keep
+all-unkeep t [] a = nil
+all-unkeep {P = P} t (x ∷ l) a =
+    split (t x)
+    (λ e. let b : All P (x ∷ keep t l) = rw e at a in cons (λ k. all-head b) (all-unkeep t l (all-tail b)))
+    (λ e. cons (λ k. absurd (clash (sym k ∙ e))) (all-unkeep t l (rw e at a)))
 
 pub pairwise-keep : {A : Type 0} {R : A → A → Type 0} (t : A → Bool) {l : List A} → Pairwise R l → Pairwise (λ x y. R x y × (t x ≡ true)) (keep t l)
 unfolding keep

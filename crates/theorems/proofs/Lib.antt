@@ -18,3 +18,4 @@ pub mod Unique
 pub mod Order
 pub mod Nesting
 pub mod Invariants
+pub mod Latest
