@@ -1,10 +1,10 @@
 -- What holds of every member of a list, over one list after another, and what it says of the searches.
 -- For every crate; nothing here is about Metamath.
-use mathlib.Core.Path.{_≡_, refl, sym, ap, _∙_}
+use mathlib.Core.Path.{_≡_, refl}
 use mathlib.Core.Bool.{Bool, true, false}
 use mathlib.Core.List.{List, [], _∷_, _++_, nil≢cons}
-use mathlib.Core.Option.{Option, none, some}
-use Rattle.paper.specs.Base.{choose, any, keep, find, gather}
+use mathlib.Core.Option.{none, some}
+use Rattle.paper.specs.Base.{any, keep, find, gather}
 use Rattle.paper.proofs.Tests.{split, clash}
 
 pub data All {A : Type 0} (P : A → Type 0) : List A → Type 0 where

@@ -1,13 +1,12 @@
 -- What holds of each member of a list and each later one.
 -- For every crate; nothing here is about Metamath.
-use mathlib.Core.Path.{_≡_, refl, sym, ap, _∙_}
-use mathlib.Core.Bool.{Bool, true, false}
+use mathlib.Core.Path.{_≡_, sym, _∙_}
+use mathlib.Core.Bool.{Bool, true}
 use mathlib.Core.List.{List, [], _∷_, _++_}
 use Prim.Native.Nat.{ℕ, zero, suc, _<_}
 use native.Mathlib.Nat.{not-suc-le-zero, le-of-suc-le-suc}
-use native.Mathlib.Omega.{arith}
 use lib.ListN.{length, getD}
-use Rattle.paper.specs.Base.{choose, keep}
+use Rattle.paper.specs.Base.{keep}
 use Rattle.paper.proofs.Tests.{split, clash}
 use Rattle.paper.proofs.All.{All, nil, cons, all-append, all-map, all-head, all-tail}
 

@@ -1,12 +1,12 @@
 -- The sum of a number over a list, and lengths as such sums.
 -- For every crate; nothing here is about Metamath.
-use mathlib.Core.Path.{_≡_, refl, sym, ap, _∙_}
-use mathlib.Core.Bool.{Bool, true, false}
+use mathlib.Core.Path.{_≡_, refl, ap}
+use mathlib.Core.Bool.{Bool}
 use mathlib.Core.List.{List, [], _∷_, _++_, map}
 use Prim.Native.Nat.{ℕ, _+_, _*_, _≤_}
 use native.Mathlib.Omega.{arith}
 use lib.ListN.{length, length-append}
-use Rattle.paper.specs.Base.{choose, keep, gather}
+use Rattle.paper.specs.Base.{keep, gather}
 use Rattle.paper.proofs.Tests.{split}
 
 unfoldable pub total : {A : Type 0} → (A → ℕ) → List A → ℕ

@@ -1,13 +1,12 @@
 -- Comments: the visible tokens of one part after another, and the place at a token that is visible.
 -- The lemmas V1 and V2 of the proof on paper; V3 is both of them twice.
 use mathlib.Core.Path.{_≡_, refl, sym, ap, _∙_}
-use mathlib.Core.Bool.{Bool, true, false}
+use mathlib.Core.Bool.{false}
 use mathlib.Core.List.{List, [], _∷_, _++_, append-assoc}
-use Prim.Native.Nat.{ℕ}
 use Rattle.paper.specs.Tokens.{Token, key}
 use Rattle.paper.specs.Comments.{Place, outside, inside, next, after, shown, visible}
 use Rattle.paper.proofs.Tests.{split}
-use Rattle.paper.proofs.All.{All, nil, cons, all-append, not-nil}
+use Rattle.paper.proofs.All.{All, nil, cons, not-nil}
 
 -- ---- V1
 pub after-append : (x y : List Token) (m : Place) → after (x ++ y) m ≡ after y (after x m)

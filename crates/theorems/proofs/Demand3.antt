@@ -1,24 +1,22 @@
 -- Demand 3, proved: no refusal with the group blanked, and both streams without its records.
 -- The lemma S3 of the proof on paper, and the theorem.
 use mathlib.Core.Path.{_≡_, refl, sym, ap, _∙_, subst}
-use mathlib.Core.Bool.{Bool, true, false}
+use mathlib.Core.Bool.{Bool, false}
 use mathlib.Core.List.{List, [], _∷_, _++_}
-use mathlib.Core.Option.{Option, none, some}
-use Prim.Native.Nat.{ℕ, zero, suc, _+_, _*_, _<_, _≤_}
+use mathlib.Core.Option.{none}
+use Prim.Native.Nat.{ℕ, _+_, _<_, _≤_}
 use native.Mathlib.Omega.{arith}
 use lib.ListN.{length, replicate, length-append, length-replicate}
-use Rattle.paper.specs.Base.{choose, not, within, keep, find, gather}
-use Rattle.paper.specs.Tokens.{Token, tokens, bad-from}
+use Rattle.paper.specs.Base.{not, within, keep, gather}
+use Rattle.paper.specs.Tokens.{bad-from}
 use Rattle.paper.specs.Statements.{Statement, none-end, Item, ends}
-use Rattle.paper.specs.Reader.{given, items, words, reading}
-use Rattle.paper.specs.State.{State, nothing}
-use Rattle.paper.specs.Checks.{Diag}
-use Rattle.paper.specs.Frames.{Frame}
+use Rattle.paper.specs.Reader.{given, words, reading}
+use Rattle.paper.specs.State.{nothing}
 use Rattle.paper.specs.Give.{Given, gives, all-given}
 use Rattle.paper.specs.Records.{frame-record, diag-record, frame-records, diag-records, frame-stream, diag-stream}
-use Rattle.paper.specs.Answer.{number, crowded, frame-at, frames-in, Streams, streams, outcome, answer, laid, frames-exit, diags-exit}
+use Rattle.paper.specs.Answer.{crowded, frame-at, frames-in, Streams, streams, outcome, answer, frames-exit, diags-exit}
 use Rattle.paper.proofs.Lists.{gather-append, keep-append}
-use Rattle.paper.proofs.All.{All, nil, cons, all-append, all-left, all-right, all-map, all-gather, keep-all, keep-none, find-none, none-find}
+use Rattle.paper.proofs.All.{All, all-append, all-left, all-right, all-map, all-gather, keep-all, keep-none, find-none, none-find}
 use Rattle.theorems.specs.Groups.{Group, statements, blanked, Apart}
 use Rattle.theorems.specs.TakenOut.{taken-out, streams-without}
 use Rattle.theorems.specs.Demand3.{Blanked, Demand3, frame-outside, diag-outside, diags-in, Exact}
@@ -27,7 +25,7 @@ use Rattle.theorems.proofs.Parts.{Split, split-group, Three, three}
 use Rattle.theorems.proofs.Whole.{below-it, within-it, beyond-it}
 use Rattle.theorems.proofs.Fold.{Parted, parted}
 use Rattle.theorems.proofs.Offsets.{diags-at, frames-at}
-use Rattle.theorems.proofs.Refusals.{Good, clean-good, good-clean, blanks-good, Passed, passed, passing, Fits, Answered, answered, answering, number-zero}
+use Rattle.theorems.proofs.Refusals.{Good, clean-good, good-clean, blanks-good, Passed, passed, passing, Fits, answered, answering, number-zero}
 use Rattle.theorems.proofs.Records.{exact, frame-stream-is, diag-stream-is}
 
 -- ---- S3: numbers 1 to 3 with the group blanked

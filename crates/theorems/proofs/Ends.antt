@@ -1,20 +1,18 @@
 -- Ends: closers and ends of one part after another; a group leaves the closers after it alone, and all inside it ends by its `$}`.
 -- The lemmas E1 to E4 of the proof on paper.
-use mathlib.Core.Path.{_≡_, refl, sym, ap, _∙_}
-use mathlib.Core.Bool.{Bool, true, false}
-use mathlib.Core.List.{List, [], _∷_, _++_, append-assoc, nil≢cons}
-use mathlib.Core.Option.{Option, none, some}
-use Prim.Native.Nat.{ℕ, zero, suc, _+_, _<_, _≤_}
+use mathlib.Core.Path.{_≡_, refl, ap, _∙_}
+use mathlib.Core.List.{List, [], _∷_, _++_, nil≢cons}
+use mathlib.Core.Option.{some}
+use Prim.Native.Nat.{ℕ, zero, suc, _<_, _≤_}
 use native.Mathlib.Omega.{arith}
 use lib.Dec.{eqb}
 use lib.ListN.{length, drop}
 use borrow.Author.Tests.{eqb-true}
-use Rattle.paper.specs.Base.{choose}
 use Rattle.paper.specs.Statements.{Statement, Item, opens, closes, states, top, tail, onto, closers, ended, with-end, ends}
 use Rattle.paper.proofs.Tests.{split}
 use Rattle.theorems.specs.Groups.{first, closer}
 use Rattle.paper.proofs.All.{All, nil, cons}
-use Rattle.theorems.proofs.Reader.{Level, flat, opened, shut-one, stated, item-at, ItemAt}
+use Rattle.theorems.proofs.Reader.{Level, flat, opened, shut-one, stated, ItemAt}
 
 -- ---- E1
 pub closers-append : (i j : List Item) (l : List ℕ) → closers (i ++ j) l ≡ closers i (closers j l)

@@ -1,11 +1,11 @@
 -- The closed examples of demand 3, computed.
 -- Every shut definition on the way is opened here.
 use mathlib.Core.Path.{_≡_, refl, sym, ap, _∙_}
-use mathlib.Core.List.{List, [], _∷_}
+use mathlib.Core.List.{List, []}
 use Prim.Native.Nat.{ℕ}
 use native.Mathlib.Omega.{arith}
 use lib.ListN.{getD, length}
-use Rattle.paper.specs.Base.{codes, sameb, all, any, keep, find, latest, gather, table}
+use Rattle.paper.specs.Base.{sameb, all, any, keep, find, latest, gather, table}
 use Rattle.paper.specs.Bytes.{white, printable, label-byte, math-byte}
 use Rattle.paper.specs.Tokens.{run, toks, tokens, label-token, math-token, key, bad-from}
 use Rattle.paper.specs.Comments.{after, visible}
@@ -19,8 +19,8 @@ use Rattle.paper.specs.Give.{give-c, give-v, give-d, give-f, give-e, give-asser
 use Rattle.paper.specs.Records.{le, u16, u32, string, framed, diag-record, fragment-bytes, expression-bytes, hypothesis-bytes, pair-bytes, octet, row-bytes, full-payload, frame-record, frame-records, diag-records, frame-stream, diag-stream}
 use Rattle.paper.specs.Answer.{Streams, written, outcome, answer, laid}
 use Rattle.paper.specs.Lookup.{u16-at, u32-at}
-use Rattle.theorems.specs.Groups.{closer, Group, blanked}
-use Rattle.theorems.specs.TakenOut.{walk, taken-out, streams-without}
+use Rattle.theorems.specs.Groups.{closer, blanked}
+use Rattle.theorems.specs.TakenOut.{walk, taken-out}
 use Rattle.theorems.specs.Demand3.{Blanked}
 use Rattle.theorems.specs.Examples.{buffer, outcome-of, label-text, symbol-text, without, nested-text, variable-text, Examples}
 

@@ -1,15 +1,13 @@
 -- The fold over the statements: one part after another, and what a group has recorded is inactive after it.
 -- The lemmas F1 to F7 of the proof on paper.
 use mathlib.Core.Path.{_≡_, refl, sym, ap, _∙_, subst}
-use mathlib.Core.Bool.{Bool, true, false}
 use mathlib.Core.List.{List, [], _∷_, _++_, append-nil}
 use Prim.Native.Nat.{ℕ, _<_, _≤_}
 use native.Mathlib.Omega.{arith}
 use borrow.Author.Tests.{le-ltb}
-use Rattle.paper.specs.Base.{choose, keep}
 use Rattle.paper.specs.Tokens.{Token}
 use Rattle.paper.specs.Statements.{Kind, $c, $v, $d, $f, $e, $a, $p, Statement, none-end, outermost}
-use Rattle.paper.specs.State.{Nested, Hyp, hyp-end, Disjoint, State, nothing, plus, active-nested, active-hyp, active-disjoint, view}
+use Rattle.paper.specs.State.{Nested, hyp-end, State, nothing, plus, active-nested, active-hyp, active-disjoint, view}
 use Rattle.paper.specs.Checks.{Diag, Verdict, against, record-it, verdict, recorded-by, records, nested-records, check-label, check-float, check-expression, check-disjoint}
 use Rattle.paper.specs.Frames.{Frame}
 use Rattle.paper.specs.Give.{Given, accept, unless, give-c, give-v, give-d, give-f, give-e, give-assertion, give-by, give, gives, all-given}

@@ -1,26 +1,22 @@
 -- What the fold keeps of its state: things that are active together end in reverse order, so that outermost before nested is
 -- text order; and of one name at most one is active. The lemmas I1, I2, I3 and I6 of the proof on paper.
-use mathlib.Core.Path.{_≡_, refl, sym, ap, _∙_}
-use mathlib.Core.Bool.{Bool, true, false}
+use mathlib.Core.Path.{_≡_, refl, ap}
 use mathlib.Core.List.{List, [], _∷_, _++_, map}
-use mathlib.Core.Option.{Option, none, some}
 use Prim.Native.Nat.{ℕ, _<_, _≤_}
-use native.Mathlib.Nat.{le-refl}
 use native.Mathlib.Omega.{arith}
 use lib.Dec.{eqb, ltb}
-use borrow.Author.Tests.{ne-eqb, eqb-true, ltb-true, ltb-false, lt-ltb, le-ltb}
-use Rattle.paper.specs.Base.{choose, not, sameb, keep, orElse, latest}
+use borrow.Author.Tests.{ne-eqb, ltb-true}
+use Rattle.paper.specs.Base.{not, keep}
 use Rattle.paper.specs.Statements.{Statement, none-end}
-use Rattle.paper.specs.Reader.{given, reading}
-use Rattle.paper.specs.State.{Nested, Hyp, hyp-end, Disjoint, State, nothing, plus, view}
+use Rattle.paper.specs.State.{hyp-end, Disjoint, State, nothing, plus, view}
 use Rattle.paper.specs.Frames.{outer, inner, in-order}
 use Rattle.paper.specs.Give.{give}
-use Rattle.paper.proofs.Tests.{split, by-option, clash, eqb-ne}
+use Rattle.paper.proofs.Tests.{split, eqb-ne}
 use Rattle.paper.proofs.All.{All, nil, cons, all-append, all-head, all-map, keep-all, keep-none}
 use Rattle.paper.proofs.Pairwise.{Pairwise, alone, then, pairwise-map, pairwise-append, pairwise-keep, all-keep}
 use Rattle.theorems.proofs.Order.{Before}
 use Rattle.theorems.proofs.Nesting.{Nests, Lives, Ranked}
-use Rattle.theorems.proofs.Fold.{Carries, carries, later}
+use Rattle.theorems.proofs.Fold.{carries, later}
 
 -- ---- things with an end, as recorded by the statements up to offset m, with statements still to come
 pub record Ordered {A : Type 0} (end : A → ℕ) (m : ℕ) (l : List A) (rest : List Statement) : Type 0 where

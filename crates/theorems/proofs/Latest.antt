@@ -4,20 +4,20 @@ use mathlib.Core.Path.{_≡_, refl, sym, ap, _∙_}
 use mathlib.Core.Bool.{Bool, true, false}
 use mathlib.Core.List.{List, [], _∷_, _++_}
 use mathlib.Core.Option.{Option, none, some}
-use Prim.Native.Nat.{ℕ, _<_, _≤_}
+use Prim.Native.Nat.{ℕ, _≤_}
 use native.Mathlib.Omega.{arith}
 use lib.Dec.{ltb}
-use borrow.Author.Tests.{ltb-true, ltb-false, le-ltb}
-use Rattle.paper.specs.Base.{choose, sameb, keep, orElse, latest}
+use borrow.Author.Tests.{ltb-true, ltb-false}
+use Rattle.paper.specs.Base.{choose, sameb, keep, latest}
 use Rattle.paper.specs.Tokens.{Token}
 use Rattle.paper.specs.Statements.{Kind, $c, $v, $d, $f, $e, $a, $p, Statement, outermost}
 use Rattle.paper.specs.Names.{Declared, global}
-use Rattle.paper.specs.State.{Nested, Hyp, float, essential, hyp-end, hyp-at, State, nothing, plus, active-nested, active-hyp, view, nested-name, nested-of, float-name, float-of, Sense, sense}
-use Rattle.paper.specs.Checks.{Diag, diag, token, check-label, Verdict, against, record-it, by-known, by-declared, verdict, recorded-by, records, nested-records, typecode-diags, variable-diags, float-diags, if-none, check-float, check-expression, check-disjoint}
+use Rattle.paper.specs.State.{Nested, Hyp, float, hyp-end, State, nothing, plus, view, nested-name, nested-of, float-name, float-of, sense}
+use Rattle.paper.specs.Checks.{Diag, token, check-label, Verdict, against, record-it, by-known, by-declared, verdict, recorded-by, records, nested-records, typecode-diags, variable-diags, float-diags, if-none, check-float, check-expression, check-disjoint}
 use Rattle.paper.specs.Frames.{Frame}
 use Rattle.paper.specs.Give.{Given, accept, unless, give-c, give-v, give-d, give-f, give-e, give-assertion, give-by, give}
 use Rattle.paper.proofs.Tests.{split, by-option, clash, same-eq}
-use Rattle.paper.proofs.All.{All, nil, cons, all-append, all-left, all-right, all-map, all-head, all-tail}
+use Rattle.paper.proofs.All.{All, nil, cons, all-append, all-left, all-right, all-map}
 use Rattle.paper.proofs.Pairwise.{Pairwise, alone, then, pairwise-map, pairwise-append, all-turn, pairwise-keep, all-unkeep}
 use Rattle.theorems.proofs.Order.{Before}
 use Rattle.theorems.proofs.Fold.{later}

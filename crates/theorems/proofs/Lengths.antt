@@ -1,18 +1,17 @@
 -- Lengths: every record of a text's streams is shorter than its length field can say.
 -- By the text's length, and by number 7 for the pairs and rows of a frame.
-use mathlib.Core.Path.{_≡_, refl, sym, ap, _∙_}
-use mathlib.Core.Bool.{Bool, true, false}
+use mathlib.Core.Path.{_≡_, refl, ap, _∙_}
+use mathlib.Core.Bool.{Bool, false}
 use mathlib.Core.List.{List, [], _∷_, _++_, map}
 use Prim.Native.Nat.{ℕ, zero, suc, _+_, _*_, _/_, _<_, _≤_}
 use native.Mathlib.Omega.{arith}
-use lib.Dec.{ltb}
 use lib.ListN.{length, length-append, length-map}
 use borrow.Author.Tests.{ltb-false}
-use Rattle.paper.specs.Base.{choose, keep, gather, table}
+use Rattle.paper.specs.Base.{keep, gather, table}
 use Rattle.paper.specs.Statements.{Statement}
 use Rattle.paper.specs.State.{Symbol, con, var, Formula, Hyp, float, essential, Disjoint, State}
-use Rattle.paper.specs.Frames.{member, see, sights, variable-in, variables-of, formula-in, raised, constant-in, pool-of, fragment-at, begun, reached, fragments, rump, expression, hypothesis, pooled, hypotheses, outer, inner, in-order, Pair, pairs, apart, row, rows, Full, Frame, stub, full, mandatory, frame-of}
-use Rattle.paper.specs.Records.{le, u16, u32, string, framed, fragment-bytes, expression-bytes, hypothesis-bytes, pair-bytes, octet, row-bytes, full-payload, frame-record}
+use Rattle.paper.specs.Frames.{member, see, sights, variable-in, variables-of, formula-in, raised, constant-in, pool-of, fragment-at, begun, reached, fragments, expression, hypothesis, pooled, hypotheses, outer, inner, in-order, Pair, pairs, apart, row, rows, Frame, stub, full, mandatory, frame-of}
+use Rattle.paper.specs.Records.{le, u16, u32, string, framed, fragment-bytes, expression-bytes, hypothesis-bytes, pair-bytes, row-bytes, full-payload, frame-record}
 use Rattle.paper.specs.Answer.{crowded, frame-at}
 use Rattle.paper.proofs.Tests.{split}
 use Rattle.paper.proofs.Lists.{gather-append}

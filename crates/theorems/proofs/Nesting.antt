@@ -1,21 +1,21 @@
 -- Nesting: a later statement that starts before an earlier one's end ends no later; and every statement starts before its end.
 -- The lemma E5 of the proof on paper.
 use mathlib.Core.Path.{_≡_, refl, subst}
-use mathlib.Core.List.{List, [], _∷_, _++_}
+use mathlib.Core.List.{List, [], _∷_}
 use Prim.Native.Nat.{ℕ, zero, suc, _<_, _≤_}
 use native.Mathlib.Nat.{le-refl}
 use native.Mathlib.Omega.{arith}
 use lib.ListN.{length, getD}
 use Rattle.paper.specs.Tokens.{tokens}
-use Rattle.paper.specs.Statements.{Statement, none-end, Item, opens, closes, states, top, tail, onto, closers, ended, ends}
+use Rattle.paper.specs.Statements.{Statement, none-end, Item, opens, closes, states, top, tail, closers, ended, ends}
 use Rattle.paper.specs.Reader.{given, items, reading}
 use Rattle.paper.proofs.All.{All, nil, cons, all-map}
 use Rattle.paper.proofs.Pairwise.{Pairwise, alone, then}
-use Rattle.theorems.proofs.Reader.{item-at, ItemAt, reads-at}
+use Rattle.theorems.proofs.Reader.{ItemAt, reads-at}
 use Rattle.theorems.proofs.Ends.{ends-at}
 use Rattle.theorems.proofs.Parts.{items-read, read-reads, shown-at}
 use Rattle.theorems.proofs.Order.{ItemBefore, Before, items-rise, statements-rise}
-use Rattle.theorems.proofs.Refusals.{Passed, passed}
+use Rattle.theorems.proofs.Refusals.{passed}
 
 abbrev pub Nests : Statement → Statement → Type 0
 Nests s r = r .at < s .end → r .end ≤ s .end

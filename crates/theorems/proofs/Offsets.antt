@@ -1,16 +1,14 @@
 -- Every diagnostic of a statement carries the statement's offset, and so does its frame.
 -- The lemma S2 of the proof on paper, for the things that the records are made of.
-use mathlib.Core.Path.{_≡_, refl, sym, ap, _∙_}
-use mathlib.Core.Bool.{Bool, true, false}
+use mathlib.Core.Path.{_≡_, refl}
 use mathlib.Core.List.{List, [], _∷_, _++_}
 use mathlib.Core.Option.{Option, none, some}
 use Prim.Native.Nat.{ℕ, zero, suc}
 use lib.Dec.{eqb, ltb}
-use Rattle.paper.specs.Base.{choose}
 use Rattle.paper.specs.Tokens.{Token}
 use Rattle.paper.specs.Statements.{Kind, $c, $v, $d, $f, $e, $a, $p, Statement, outermost}
 use Rattle.paper.specs.Names.{owner, Declared, global}
-use Rattle.paper.specs.State.{Nested, Hyp, State, float-of, view, plus, Sense, inactive, constant, variable, sense}
+use Rattle.paper.specs.State.{Nested, Hyp, State, float-of, view, Sense, inactive, constant, variable, sense}
 use Rattle.paper.specs.Checks.{Diag, diag, each, token, label-diags, check-label, clash, redeclared, outer-token, check-outer, Verdict, against, record-it, verdict, verdict-diags, records, nested-diags, typecode-diags, variable-diags, float-diags, if-none, check-float, missing, placed, symbol-diags, symbol-token, check-expression, disjoint-diags, disjoint-token, check-disjoint, first-index}
 use Rattle.paper.specs.Frames.{Frame, frame-of}
 use Rattle.paper.specs.Give.{Given, only, accept, unless, give-c, give-v, give-d, give-f, give-e, give-assertion, give-by, give, gives}

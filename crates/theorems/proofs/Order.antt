@@ -1,22 +1,21 @@
 -- Order: tokens, items and statements stand at rising offsets.
 -- The lemmas T5 and R3 of the proof on paper, for what is proved above demand 3.
-use mathlib.Core.Path.{_≡_, refl, sym, ap, _∙_}
-use mathlib.Core.Bool.{Bool, true, false}
+use mathlib.Core.Path.{_≡_, refl}
 use mathlib.Core.List.{List, [], _∷_, _++_}
 use Prim.Native.Nat.{ℕ, suc, _+_, _<_, _≤_}
 use native.Mathlib.Omega.{arith}
 use lib.ListN.{length}
 use Rattle.paper.specs.Bytes.{white}
 use Rattle.paper.specs.Tokens.{Token, put, run, toks, tokens, key}
-use Rattle.paper.specs.Comments.{Place, outside, inside, next, visible}
+use Rattle.paper.specs.Comments.{Place, outside, inside, visible}
 use Rattle.paper.specs.Statements.{Statement, Item, opens, closes, states, top, closers, ended, ends}
 use Rattle.paper.specs.Reader.{Mode, start, named, math, proof, given, items}
 use Rattle.paper.proofs.Tests.{split}
-use Rattle.paper.proofs.All.{All, nil, cons, all-append, all-map}
-use Rattle.paper.proofs.Pairwise.{Pairwise, alone, then, pairwise-append}
+use Rattle.paper.proofs.All.{All, nil, cons, all-map}
+use Rattle.paper.proofs.Pairwise.{Pairwise, alone, then}
 use Rattle.theorems.proofs.Tokens.{Within, run-within}
 use Rattle.theorems.proofs.Comments.{visible-all}
-use Rattle.theorems.proofs.Reader.{mode-at, Gives, quiet, opening, closing-one, stating, allow-gives, Reads, done, step, item-at, TokenAt, ItemAt, InHand, reads-at}
+use Rattle.theorems.proofs.Reader.{mode-at, Gives, quiet, opening, closing-one, stating, allow-gives, Reads, done, step, item-at, ItemAt, reads-at}
 use Rattle.theorems.proofs.Ends.{ends-at}
 use Rattle.theorems.proofs.Parts.{items-read, read-reads}
 

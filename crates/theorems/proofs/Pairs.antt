@@ -1,17 +1,17 @@
 -- The pairs of a frame are few: their numbers are below 4,096, and no two pairs are the same.
 -- Counted by the codes that no pair has taken yet.
-use mathlib.Core.Path.{_≡_, refl, sym, ap, _∙_, subst}
+use mathlib.Core.Path.{_≡_, refl, sym, _∙_, subst}
 use mathlib.Core.Bool.{Bool, true, false}
 use mathlib.Core.List.{List, [], _∷_, _++_, map, append-nil}
 use Prim.Native.Nat.{ℕ, zero, suc, _+_, _*_, _<_, _≤_}
 use native.Mathlib.Omega.{arith}
 use lib.Dec.{eqb}
 use lib.ListN.{length}
-use borrow.Author.Tests.{eq-eqb, ne-eqb, eqb-true}
-use Rattle.paper.specs.Base.{choose, and, or, sameb, any, keep, gather}
-use Rattle.paper.specs.Frames.{member, index, Pair, pair, pairs-in, mandatory-in, same-pair, new-pair, new-pairs, pairs-by, pairs}
+use borrow.Author.Tests.{eq-eqb, eqb-true}
+use Rattle.paper.specs.Base.{choose, sameb, any, keep, gather}
+use Rattle.paper.specs.Frames.{member, index, Pair, pair, pairs-in, mandatory-in, same-pair, new-pairs, pairs-by, pairs}
 use Rattle.paper.proofs.Tests.{split, clash, eqb-ne, same-eq, eq-same}
-use Rattle.paper.proofs.All.{All, nil, cons, all-append, all-map, all-gather, any-left, any-right}
+use Rattle.paper.proofs.All.{All, nil, cons, all-append, any-left, any-right}
 
 -- ---- the codes that are free
 abbrev code : Pair → ℕ

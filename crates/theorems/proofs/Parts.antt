@@ -1,22 +1,22 @@
 -- The three parts of a text with a group: before it, in it, after it; as items, as tokens and as bytes.
 -- With the group blanked the reader reads the items before it and after it: the lemmas T6, V3, R5 and R7 of the proof on paper.
 use mathlib.Core.Path.{_≡_, refl, sym, ap, _∙_}
-use mathlib.Core.Bool.{Bool, true, false}
+use mathlib.Core.Bool.{true}
 use mathlib.Core.List.{List, [], _∷_, _++_}
-use mathlib.Core.Option.{Option, none, some}
+use mathlib.Core.Option.{some}
 use Prim.Native.Nat.{ℕ, zero, suc, _+_, _<_, _≤_}
 use native.Mathlib.Omega.{arith}
 use lib.ListN.{length, replicate, length-append}
 use Rattle.paper.specs.Tokens.{Token, key, toks, tokens}
-use Rattle.paper.specs.Comments.{Place, outside, inside, next, after, visible}
-use Rattle.paper.specs.Statements.{Statement, Item, opens, closes, states, closers, ends}
-use Rattle.paper.specs.Reader.{Mode, start, named, math, proof, Step, go, stop, many, Outcome, given, refused, finish, close, ending, items}
+use Rattle.paper.specs.Comments.{Place, outside, inside, after, visible}
+use Rattle.paper.specs.Statements.{Statement, Item, opens, closes, closers, ends}
+use Rattle.paper.specs.Reader.{Mode, start, named, math, proof, Step, go, stop, many, given, finish, ending, items}
 use Rattle.paper.proofs.Tests.{same-eq}
 use Rattle.theorems.specs.Groups.{closer, blanked}
 use Rattle.paper.proofs.All.{All, all-map}
-use Rattle.theorems.proofs.Tokens.{Cut, cut, Within, toks-within, Parts, blanked-parts, toks-parts}
-use Rattle.theorems.proofs.Comments.{after-append, visible-append, visible-all, Shown, shown-cut, shown-after}
-use Rattle.theorems.proofs.Reader.{Reads, many-reads, reads-many, reads-append, Level, reads-level, level-shift, TokenAt, ItemAt, reads-at, reads-cut, Opened, Closed, brace-opened, brace-closed}
+use Rattle.theorems.proofs.Tokens.{cut, toks-within, Parts, blanked-parts, toks-parts}
+use Rattle.theorems.proofs.Comments.{after-append, visible-append, visible-all, shown-cut, shown-after}
+use Rattle.theorems.proofs.Reader.{Reads, many-reads, reads-many, reads-append, Level, reads-level, level-shift, TokenAt, ItemAt, reads-at, reads-cut, brace-opened, brace-closed}
 use Rattle.theorems.proofs.Ends.{closers-append, ends-append, ends-at, Owned, owned, neutral, ends-low}
 
 -- ---- a text is read: the reader stands between statements, at depth 0, outside comments

@@ -1,39 +1,36 @@
 -- Every record of both streams is sound: framed, short, with its statement's offset after length and kind.
 -- So the walk by length fields finds exactly the records.
 use mathlib.Core.Path.{_≡_, refl, sym, ap, _∙_}
-use mathlib.Core.Bool.{Bool, true, false}
-use mathlib.Core.List.{List, [], _∷_, _++_, append-assoc}
-use mathlib.Core.Option.{Option, none, some}
-use Prim.Native.Nat.{ℕ, zero, suc, _+_, _<_, _≤_}
+use mathlib.Core.Bool.{false}
+use mathlib.Core.List.{List, [], _∷_, _++_}
+use mathlib.Core.Option.{none}
+use Prim.Native.Nat.{ℕ, _+_, _<_, _≤_}
 use native.Mathlib.Omega.{arith}
 use lib.ListN.{length, length-append}
-use Rattle.paper.specs.Base.{choose, find, gather}
-use Rattle.paper.specs.Tokens.{Token, tokens}
-use Rattle.paper.specs.Comments.{outside, visible}
+use Rattle.paper.specs.Base.{find, gather}
+use Rattle.paper.specs.Tokens.{tokens}
 use Rattle.paper.specs.Statements.{Kind, $c, $v, $d, $f, $e, $a, $p, Statement, outermost, Item, ends}
-use Rattle.paper.specs.Reader.{given, items, reading}
+use Rattle.paper.specs.Reader.{given, items}
 use Rattle.paper.specs.State.{State, nothing, view, plus}
 use Rattle.paper.specs.Checks.{Diag, token, check-label, check-float, check-expression, check-disjoint}
-use Rattle.paper.specs.Frames.{Frame, stub, formula, frame-of}
+use Rattle.paper.specs.Frames.{Frame, formula}
 use Rattle.paper.specs.Give.{Given, accept, unless, give-c, give-v, give-d, give-f, give-e, give-assertion, give-by, give, gives, all-given}
-use Rattle.paper.specs.Records.{u32, framed, diag-record, frame-record, frame-records, diag-records, frame-stream, diag-stream}
-use Rattle.paper.specs.Answer.{crowded, frame-at, frames-in, Streams, streams, outcome}
+use Rattle.paper.specs.Records.{u32, diag-record, frame-record, frame-records, diag-records, frame-stream, diag-stream}
+use Rattle.paper.specs.Answer.{crowded, frame-at, frames-in, streams}
 use Rattle.paper.proofs.Tests.{split}
 use Rattle.paper.proofs.Lists.{gather-append}
 use Rattle.paper.proofs.Sums.{total}
 use Rattle.paper.proofs.All.{All, nil, cons, all-map, all-both, all-gather, find-none}
 use Rattle.theorems.specs.TakenOut.{taken-out}
-use Rattle.theorems.specs.Demand3.{frame-outside, diag-outside, diags-in, Exact, Walked}
-use Rattle.theorems.proofs.Tokens.{toks-within}
-use Rattle.theorems.proofs.Comments.{visible-all}
-use Rattle.theorems.proofs.Reader.{statement-weight, ItemAt, reads-at}
+use Rattle.theorems.specs.Demand3.{diags-in, Exact, Walked}
+use Rattle.theorems.proofs.Reader.{statement-weight, reads-at}
 use Rattle.theorems.proofs.Ends.{ends-at}
 use Rattle.theorems.proofs.Parts.{items-read, read-reads, shown-at}
 use Rattle.theorems.proofs.Streams.{Sound, taken-gather}
 use Rattle.theorems.proofs.Offsets.{diags-at, frames-at}
 use Rattle.theorems.proofs.Weights.{statements-weight, text-weight, state-weight, view-weight, plus-weight, formula-light, two-light, light}
 use Rattle.theorems.proofs.Lengths.{u32-length, kind-of, rest-of, frame-framed, Short, stub-short, full-short}
-use Rattle.theorems.proofs.Refusals.{Passed, passed, Fits, Answered, answered}
+use Rattle.theorems.proofs.Refusals.{Passed, passed, answered}
 
 -- ---- frames are short
 abbrev Fit : Frame → Type 0

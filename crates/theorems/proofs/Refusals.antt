@@ -1,22 +1,21 @@
 -- Refusals: what a text that is answered with number 0 has passed, and that it suffices.
 -- For the lemma S3 of the proof on paper.
-use mathlib.Core.Path.{_≡_, refl, sym, ap, _∙_}
-use mathlib.Core.Bool.{Bool, true, false}
-use mathlib.Core.List.{List, [], _∷_, _++_}
-use mathlib.Core.Option.{Option, none, some}
-use Prim.Native.Nat.{ℕ, zero, suc, _+_, _<_, _≤_}
+use mathlib.Core.Path.{_≡_, refl}
+use mathlib.Core.Bool.{true, false}
+use mathlib.Core.List.{List, [], _∷_}
+use mathlib.Core.Option.{none, some}
+use Prim.Native.Nat.{ℕ, zero, suc, _≤_}
 use native.Mathlib.Omega.{arith}
 use lib.Dec.{ltb}
 use lib.ListN.{length, replicate}
 use borrow.Author.Tests.{le-ltb, ltb-false}
-use Rattle.paper.specs.Base.{choose, or, find}
+use Rattle.paper.specs.Base.{or, find}
 use Rattle.paper.specs.Bytes.{white, printable}
 use Rattle.paper.specs.Tokens.{tokens, bad-from}
 use Rattle.paper.specs.Statements.{Statement, Item, ends}
-use Rattle.paper.specs.Reader.{Outcome, refused, given, items, with-ends, printed, words, reading}
-use Rattle.paper.specs.Frames.{Frame}
+use Rattle.paper.specs.Reader.{Outcome, refused, given, items, with-ends, words, reading}
 use Rattle.paper.specs.Give.{Given, all-given}
-use Rattle.paper.specs.Answer.{refusal-number, number, crowded, frame-at, frames-in, Streams, fitting, streams, numbered, written, written-of, outcome, answer-of, answer}
+use Rattle.paper.specs.Answer.{refusal-number, number, crowded, frame-at, frames-in, Streams, fitting, streams, written, outcome, answer}
 use Rattle.paper.specs.declared.Refusal.{Refusal}
 use Rattle.paper.specs.declared.Refusal.the-variants.{LongText, ShortWork, BadByte, OpenComment, BadToken, OpenText, ManyVariables, ShortFrames, ShortDiags}
 use Rattle.paper.proofs.Tests.{split, by-option, clash}

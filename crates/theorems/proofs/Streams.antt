@@ -1,9 +1,9 @@
 -- Streams: the walk by length fields finds exactly the records, and each has its statement's offset after length and kind.
 -- The lemmas S1 and S2 of the proof on paper.
-use mathlib.Core.Path.{_≡_, refl, sym, ap, _∙_}
+use mathlib.Core.Path.{_≡_, refl, ap, _∙_}
 use mathlib.Core.Bool.{Bool, true, false}
-use mathlib.Core.List.{List, [], _∷_, _++_, append-assoc}
-use Prim.Native.Nat.{ℕ, zero, suc, _+_, _*_, _/_, _%_, _<_, _≤_}
+use mathlib.Core.List.{List, [], _∷_, _++_}
+use Prim.Native.Nat.{ℕ, suc, _+_, _*_, _/_, _%_, _<_}
 use native.Mathlib.Omega.{arith}
 use lib.ListN.{length}
 use Rattle.paper.specs.Base.{choose, not, within, keep, gather}
@@ -11,7 +11,7 @@ use Rattle.paper.specs.Records.{le, u16, u32, framed}
 use Rattle.paper.specs.Lookup.{u16-at, u32-at}
 use Rattle.paper.proofs.Tests.{split}
 use Rattle.paper.proofs.All.{All, nil, cons}
-use Rattle.theorems.specs.TakenOut.{kept, stays, walk, taken-out}
+use Rattle.theorems.specs.TakenOut.{walk, taken-out}
 
 -- ---- four bytes and their number
 u32-value : (n : ℕ) → n < 4294967296 → (n % 256 + 256 * ((n / 256) % 256)) + 65536 * ((n / 256 / 256) % 256 + 256 * ((n / 256 / 256 / 256) % 256)) ≡ n

@@ -1,16 +1,16 @@
 -- Tokens under blanking: the bytes of a text cut at one of its tokens, and bytes with white space in their middle.
 -- The lemmas T1 to T7 of the proof on paper, the first three by one induction.
 use mathlib.Core.Path.{_≡_, refl, sym, ap, _∙_}
-use mathlib.Core.Bool.{Bool, true, false}
+use mathlib.Core.Bool.{true}
 use mathlib.Core.List.{List, [], _∷_, _++_}
-use Prim.Native.Nat.{ℕ, zero, suc, _+_, _-_, _<_, _≤_}
+use Prim.Native.Nat.{ℕ, zero, suc, _+_, _<_, _≤_}
 use native.Mathlib.Nat.{add-zero, add-suc, suc-add}
 use native.Mathlib.Omega.{arith}
-use lib.ListN.{length, take, drop, replicate, length-append, length-replicate}
+use lib.ListN.{length, take, drop, replicate, length-replicate}
 use lib.Seq.{take-at, drop-append-add}
 use Rattle.paper.specs.Bytes.{white}
 use Rattle.paper.specs.Answer.{laid}
-use Rattle.paper.specs.Tokens.{Token, Run, put, prefix, run, toks}
+use Rattle.paper.specs.Tokens.{Token, put, run, toks}
 use Rattle.paper.proofs.Tests.{split}
 use Rattle.theorems.specs.Groups.{span, blanked}
 use Rattle.paper.proofs.All.{All, nil, cons, all-map, not-nil}

@@ -1,9 +1,7 @@
 -- Uniqueness, proved: both results are the same function of the inputs, field by field.
 -- Assumes nothing.
-use mathlib.Core.Path.{_≡_, sym, _∙_}
-use mathlib.Core.List.{List}
-use Prim.Native.Nat.{ℕ}
-use Rattle.theorems.specs.Unique.{Result, Allowed, Unique, LookedUp, AllowedLook, UniqueLook}
+use mathlib.Core.Path.{sym, _∙_}
+use Rattle.theorems.specs.Unique.{Unique, UniqueLook}
 
 pub unique : Unique
 unique t w f d r s a b =

@@ -1,25 +1,23 @@
 -- Weights: what the statements of a text and all that they record come to is bounded by the text's length.
 -- For the lengths of records; each token counts its bytes and one more.
-use mathlib.Core.Path.{_≡_, refl, sym, ap, _∙_}
-use mathlib.Core.Bool.{Bool, true, false}
-use mathlib.Core.List.{List, [], _∷_, _++_, map}
-use Prim.Native.Nat.{ℕ, zero, suc, _+_, _≤_}
+use mathlib.Core.Path.{_≡_, refl}
+use mathlib.Core.List.{List, [], _∷_, map}
+use Prim.Native.Nat.{ℕ, suc, _+_, _≤_}
 use native.Mathlib.Omega.{arith}
 use lib.ListN.{length, drop}
-use Rattle.paper.specs.Base.{choose, keep}
 use Rattle.paper.specs.Bytes.{white}
 use Rattle.paper.specs.Tokens.{Token, put, run, toks, tokens, key}
 use Rattle.paper.specs.Comments.{Place, outside, inside, next, visible}
 use Rattle.paper.specs.Statements.{Kind, $c, $v, $d, $f, $e, $a, $p, Statement, outermost, Item, opens, closes, states, ends}
-use Rattle.paper.specs.Reader.{start, given, items}
+use Rattle.paper.specs.Reader.{given, items}
 use Rattle.paper.specs.State.{Symbol, con, var, Formula, Hyp, float, essential, Disjoint, State, nothing, plus, active-hyp, active-disjoint, view, Sense, inactive, constant, variable, sense}
 use Rattle.paper.specs.Checks.{Diag, token, check-label, check-float, check-expression, check-disjoint}
 use Rattle.paper.specs.Frames.{Frame, symbol-of, symbol, formula}
 use Rattle.paper.specs.Give.{Given, accept, unless, give-c, give-v, give-d, give-f, give-e, give-assertion, give-by, give}
 use Rattle.paper.proofs.Tests.{split}
-use Rattle.paper.proofs.Sums.{total, total-append, total-keep, total-map}
-use Rattle.theorems.proofs.Reader.{token-weight, weight, statement-weight, item-weight, items-weight, reads-weight}
-use Rattle.theorems.proofs.Parts.{Read, items-read, read-reads}
+use Rattle.paper.proofs.Sums.{total, total-append, total-keep}
+use Rattle.theorems.proofs.Reader.{weight, statement-weight, items-weight, reads-weight}
+use Rattle.theorems.proofs.Parts.{items-read, read-reads}
 
 -- ---- tokens of bytes
 put-weight : (o : ℕ) (h : List ℕ) (l : List Token) → weight (put o h l) ≤ suc (length h) + weight l

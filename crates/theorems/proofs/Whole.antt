@@ -3,24 +3,23 @@
 use mathlib.Core.Path.{_≡_, refl, sym, ap, _∙_}
 use mathlib.Core.Bool.{Bool, true, false}
 use mathlib.Core.List.{List, [], _∷_, _++_, map, append-nil}
-use mathlib.Core.Option.{Option, none, some}
 use Prim.Native.Nat.{ℕ, suc, _<_, _≤_}
 use native.Mathlib.Omega.{arith}
 use lib.Dec.{leb}
 use lib.ListN.{drop}
 use borrow.Author.Tests.{ne-eqb, le-leb, lt-leb}
-use Rattle.paper.specs.Base.{choose, not, within, sameb, any, keep, find, orElse, gather}
+use Rattle.paper.specs.Base.{not, within, sameb, any, keep, gather}
 use Rattle.paper.specs.Tokens.{Token}
-use Rattle.paper.specs.Statements.{Kind, $c, $v, $d, $f, $e, $a, $p, labelled, Statement, none-end, outermost}
-use Rattle.paper.specs.Names.{named, bearer, labels, owner, Declared, declarations, declared, declares-name, global}
+use Rattle.paper.specs.Statements.{Kind, $c, $v, $d, $f, $e, $a, $p, Statement, none-end, outermost}
+use Rattle.paper.specs.Names.{named, bearer, labels, owner, declarations, declared, global}
 use Rattle.paper.specs.State.{Nested, State, sense}
-use Rattle.paper.specs.Checks.{Diag, diag, each, token, check-label, outer-token, check-outer, clash, verdict, verdict-diags, records, nested-records, nested-diags, check-float, symbol-token, check-expression, disjoint-token, check-disjoint}
+use Rattle.paper.specs.Checks.{Diag, each, token, check-label, outer-token, check-outer, verdict, records, nested-records, nested-diags, check-float, symbol-token, check-expression, disjoint-token, check-disjoint}
 use Rattle.paper.specs.Frames.{symbol, formula}
-use Rattle.paper.specs.Give.{Given, only, with-nested, give-c, give-v, give-d, give-f, give-e, give-assertion, give-by, give}
+use Rattle.paper.specs.Give.{give-c, give-v, give-d, give-f, give-e, give-assertion, give-by, give}
 use Rattle.paper.proofs.Tests.{split, same-refl}
 use Rattle.paper.proofs.Lists.{gather-append, keep-append, find-append}
-use Rattle.paper.proofs.All.{All, nil, cons, all-append, all-head, all-map, all-ungather, gather-none, keep-all, keep-none, any-left, any-right, find-any}
-use Rattle.theorems.specs.Groups.{inside, outside, symbols-by, symbols, borne, declared-in, Apart}
+use Rattle.paper.proofs.All.{All, nil, cons, all-head, all-map, all-ungather, gather-none, keep-all, keep-none, find-any}
+use Rattle.theorems.specs.Groups.{inside, outside, symbols, borne, declared-in, Apart}
 use Rattle.theorems.proofs.Parts.{Three}
 
 -- ---- W3: what is asked of the whole text

@@ -10,7 +10,7 @@ use lib.ListN.{length, replicate}
 use Rattle.paper.specs.Base.{choose, not, within, any, keep, gather}
 use Rattle.paper.specs.Tokens.{Token, tokens}
 use Rattle.paper.specs.Statements.{Kind, $c, $v, $d, $f, $e, $a, $p, Statement, Item, opens, closes, states, closers, ends}
-use Rattle.paper.specs.Reader.{Outcome, given, items}
+use Rattle.paper.specs.Reader.{given, items}
 use Rattle.paper.specs.Names.{named, labels}
 use Rattle.paper.specs.Answer.{laid}
 
