@@ -4,7 +4,7 @@ use mathlib.Core.Path.{_≡_, refl}
 use mathlib.Core.Bool.{Bool, true, false}
 use mathlib.Core.List.{List, [], _∷_, _++_, nil≢cons}
 use mathlib.Core.Option.{none, some}
-use Rattle.paper.specs.Base.{any, keep, find, gather}
+use Rattle.paper.specs.Base.{all, any, keep, find, gather}
 use Rattle.paper.proofs.Tests.{split, clash}
 
 pub data All {A : Type 0} (P : A → Type 0) : List A → Type 0 where
@@ -95,3 +95,8 @@ pub none-find : {A : Type 0} (p : A → Bool) {l : List A} → All (λ x. p x �
 unfolding find
 none-find p nil = refl
 none-find p (cons h a) = rw h (none-find p a)
+
+pub all-true : {A : Type 0} (p : A → Bool) {l : List A} → All (λ x. p x ≡ true) l → all p l ≡ true
+unfolding all
+all-true p nil = refl
+all-true p (cons h a) = rw h (all-true p a)

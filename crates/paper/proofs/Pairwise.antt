@@ -26,10 +26,6 @@ pub pairwise-append : {A : Type 0} {R : A → A → Type 0} {l m : List A} → P
 pairwise-append alone b h = b
 pairwise-append (then a p) b (cons k h) = then (all-append a k) (pairwise-append p b h)
 
-pub pairwise-right : {A : Type 0} {R : A → A → Type 0} (l m : List A) → Pairwise R (l ++ m) → Pairwise R m
-pairwise-right [] m p = p
-pairwise-right (x ∷ l) m (then a p) = pairwise-right l m p
-
 -- of each with each, the other way round
 pub all-turn : {A B : Type 0} {R : A → B → Type 0} (l : List A) {m : List B} → All (λ y. All (λ x. R x y) l) m → All (λ x. All (R x) m) l
 all-turn [] k = nil

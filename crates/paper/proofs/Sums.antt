@@ -40,11 +40,6 @@ unfolding total
 total-times k f g h [] = omega arith
 total-times k f g h (x ∷ l) = omega (arith, h x, total-times k f g h l)
 
-pub total-le : {A : Type 0} (f g : A → ℕ) → ((x : A) → f x ≤ g x) → (l : List A) → total f l ≤ total g l
-unfolding total
-total-le f g h [] = omega arith
-total-le f g h (x ∷ l) = omega (arith, h x, total-le f g h l)
-
 pub length-gather : {A B : Type 0} (f : A → List B) (l : List A) → length (gather f l) ≡ total (λ x. length (f x)) l
 unfolding total gather
 length-gather f [] = refl

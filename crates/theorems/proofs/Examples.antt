@@ -22,7 +22,7 @@ use Rattle.paper.specs.Lookup.{u16-at, u32-at}
 use Rattle.theorems.specs.Groups.{closer, blanked}
 use Rattle.theorems.specs.TakenOut.{walk, taken-out}
 use Rattle.theorems.specs.Demand3.{Blanked}
-use Rattle.theorems.specs.Examples.{buffer, outcome-of, label-text, symbol-text, without, nested-text, variable-text, Examples}
+use Rattle.theorems.specs.Examples.{buffer, outcome-of, label-text, symbol-text, without, nested-text, variable-text, comment-text, Examples}
 
 -- the items of a text that is read
 abbrev read-of : Outcome (List Item) → List Item
@@ -75,6 +75,20 @@ examples =
       nested-variable =
           record {
             group = record { read = items-of variable-text; reads = refl; own = refl };
+            before = refl;
+            after = refl;
+            streams = refl;
+          };
+      comment-group =
+          record {
+            group = record { read = items-of comment-text; reads = refl; own = refl };
+            before = refl;
+            after = refl;
+            streams = refl;
+          };
+      empty-group =
+          record {
+            group = record { read = items-of comment-text; reads = refl; own = refl };
             before = refl;
             after = refl;
             streams = refl;

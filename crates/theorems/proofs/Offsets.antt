@@ -114,22 +114,22 @@ disjoint-at w v s =
     each-at (disjoint-token w v s) (λ i t. distinct-at (sense w v t) (first-index (s .math) (t .bytes)) (s .at) i) (s .math) 0
 
 -- ---- what a statement gives
-pub record Placed (o : ℕ) (g : Given) : Type 0 where
+pub record Stands (o : ℕ) (g : Given) : Type 0 where
   pub diags : All (OfStatement o) (g .diags)
   pub frame : All (FrameOf o) (g .frame)
 
-only-at : {o : ℕ} {d : List Diag} → All (OfStatement o) d → Placed o (only d)
+only-at : {o : ℕ} {d : List Diag} → All (OfStatement o) d → Stands o (only d)
 only-at a = record { diags = a; frame = nil }
 
-accept-at : {o : ℕ} (d : List Diag) (r : State) {f : List Frame} → All (OfStatement o) d → All (FrameOf o) f → Placed o (accept d r f)
+accept-at : {o : ℕ} (d : List Diag) (r : State) {f : List Frame} → All (OfStatement o) d → All (FrameOf o) f → Stands o (accept d r f)
 accept-at [] r a b = record { diags = nil; frame = b }
 accept-at (x ∷ d) r a b = record { diags = a; frame = nil }
 
-unless-at : {o : ℕ} (d : List Diag) {g : Given} → All (OfStatement o) d → Placed o g → Placed o (unless d g)
+unless-at : {o : ℕ} (d : List Diag) {g : Given} → All (OfStatement o) d → Stands o g → Stands o (unless d g)
 unless-at [] a b = b
 unless-at (x ∷ d) a b = record { diags = a; frame = nil }
 
-give-at-by : (k : Kind) (w : List Statement) (v : State) (s : Statement) → Placed (s .at) (give-by k w v s)
+give-at-by : (k : Kind) (w : List Statement) (v : State) (s : Statement) → Stands (s .at) (give-by k w v s)
 unfolding give-c give-v give-d give-f give-e give-assertion check-label frame-of
 give-at-by $c w v s =
     split (outermost s) (λ e. rw e (only-at (outer-at w s))) (λ e. rw e (only-at (one 13 (s .at) 0 0)))
@@ -151,7 +151,7 @@ give-at-by $p w v s =
     unless-at (check-label w s) (label-at (owner w (s .label)) s)
     (accept-at (check-expression w v s) _ (expression-at w v s) (cons refl nil))
 
-pub give-at : (w : List Statement) (v : State) (s : Statement) → Placed (s .at) (give w v s)
+pub give-at : (w : List Statement) (v : State) (s : Statement) → Stands (s .at) (give w v s)
 unfolding give
 give-at w v s = give-at-by (s .kind) w v s
 

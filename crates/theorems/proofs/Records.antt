@@ -7,6 +7,9 @@ use mathlib.Core.Option.{none}
 use Prim.Native.Nat.{ℕ, _+_, _<_, _≤_}
 use native.Mathlib.Omega.{arith}
 use lib.ListN.{length, length-append}
+use lib.Dec.{ltb}
+use borrow.Author.Tests.{eq-eqb, lt-ltb}
+use Rattle.paper.specs.Lookup.{u32-at}
 use Rattle.paper.specs.Base.{find, gather}
 use Rattle.paper.specs.Tokens.{tokens}
 use Rattle.paper.specs.Statements.{Kind, $c, $v, $d, $f, $e, $a, $p, Statement, outermost, Item, ends}
@@ -20,14 +23,14 @@ use Rattle.paper.specs.Answer.{crowded, frame-at, frames-in, streams}
 use Rattle.paper.proofs.Tests.{split}
 use Rattle.paper.proofs.Lists.{gather-append}
 use Rattle.paper.proofs.Sums.{total}
-use Rattle.paper.proofs.All.{All, nil, cons, all-map, all-both, all-gather, find-none}
+use Rattle.paper.proofs.All.{All, nil, cons, all-map, all-both, all-gather, find-none, all-true}
 use Rattle.theorems.specs.TakenOut.{taken-out}
-use Rattle.theorems.specs.Demand3.{diags-in, Exact, Walked}
+use Rattle.theorems.specs.Demand3.{Offsets, diags-in, Exact, Walked}
 use Rattle.theorems.proofs.Reader.{statement-weight, reads-at}
 use Rattle.theorems.proofs.Ends.{ends-at}
 use Rattle.theorems.proofs.Parts.{items-read, read-reads, shown-at}
-use Rattle.theorems.proofs.Streams.{Sound, taken-gather}
-use Rattle.theorems.proofs.Offsets.{diags-at, frames-at}
+use Rattle.theorems.proofs.Streams.{offset-framed, Sound, taken-gather}
+use Rattle.theorems.proofs.Offsets.{give-at, diags-at, frames-at}
 use Rattle.theorems.proofs.Weights.{statements-weight, text-weight, state-weight, view-weight, plus-weight, formula-light, two-light, light}
 use Rattle.theorems.proofs.Lengths.{u32-length, kind-of, rest-of, frame-framed, Short, stub-short, full-short}
 use Rattle.theorems.proofs.Refusals.{Passed, passed, answered}
@@ -101,6 +104,21 @@ diag-sound x l =
       low = l;
     }
 
+frame-offset : (x : Frame) → frame-at x < 4294967296 → u32-at (frame-record x) 6 ≡ frame-at x
+frame-offset x h = rw (frame-framed x) (offset-framed (kind-of x) (frame-at x) (rest-of x) h)
+
+diag-offset : (x : Diag) → x .statement < 4294967296 → u32-at (diag-record x) 6 ≡ x .statement
+unfolding diag-record
+diag-offset x h = offset-framed (x .kind) (x .statement) (u32 (x .index) ++ u32 (x .other)) h
+
+pub offsets : Offsets
+offsets w v s h =
+    let g = give-at w v s in
+    record {
+      frame = all-true _ (all-map (λ x e. eq-eqb (u32-at (frame-record x) 6) (s .at) (frame-offset x (omega arith) ∙ e)) (g .frame));
+      diags = all-true _ (all-map (λ x e. eq-eqb (u32-at (diag-record x) 6) (s .at) (diag-offset x (omega arith) ∙ e)) (g .diags));
+    }
+
 module _ {l : List Statement} (small : All (λ s. s .at < 4294967296) l) where
   pub diags-sound : All (λ x. Sound (diag-record x) (x .statement)) (diags-in (all-given l))
   unfolding all-given
@@ -134,10 +152,12 @@ diag-stream-is l = gather-gather diag-record (λ g. g .diags) l
 pub exact : (t : List ℕ) (w : ℕ) (l : List Statement) → Passed t w l → find crowded (frames-in (all-given l)) ≡ none → (p q : ℕ) → Exact l (streams (all-given l)) p q
 exact t w l h c p q =
     let e = h .statements in
-    let a : All (λ s. s .at < 4294967296) l =
+    let z : All (λ s. s .at < 16777216) l =
     rw e (all-map (λ s k. omega (arith, h .small)) (text-at t (h .read) (h .reads))) in
+    let a : All (λ s. s .at < 4294967296) l = all-map (λ s k. omega arith) z in
     let b : statements-weight l ≤ 16777217 = rw e (omega (arith, text-weight t (h .read) (h .reads), h .small)) in
     record {
+      low = all-true (λ r. ltb (r .at) 16777216) (all-map (λ r k. lt-ltb (r .at) 16777216 k) z);
       frames = frame-stream-is (all-given l);
       diags = diag-stream-is (all-given l);
       frames-stay =

@@ -52,6 +52,11 @@ module _ (p q : ℕ) where
       (omega (arith, u32-value n (omega arith)))
       (u32-value o g)
 
+-- the four bytes after length and kind
+pub offset-framed : (k o : ℕ) (r : List ℕ) → o < 4294967296 → u32-at (framed k (u32 o ++ r)) 6 ≡ o
+unfolding framed u32 u16 le u32-at u16-at
+offset-framed k o r g = u32-value o g
+
 -- the bytes of a record: framed, with the offset o at the head of its payload, and short enough for its length field
 pub record Sound (bytes : List ℕ) (o : ℕ) : Type 0 where
   pub kind : ℕ

@@ -70,9 +70,21 @@ variable-text = codes "$c c $. ${ $v x $. f $f c x $. a $a c x $. $} ${ $v x $. 
 abbrev pub NestedVariable : Type 0
 NestedVariable = Holds variable-text 8 43 (Done 135 0) (Done 29 0)
 
+-- a group with a comment at either end, in which stands the other's brace; and an empty group
+abbrev pub comment-text : List ℕ
+comment-text = codes "$c c $. ${ $( $} $) a $a c $. $( ${ $) $} ${ $} b $a c $."
+
+abbrev pub CommentGroup : Type 0
+CommentGroup = Holds comment-text 8 39 (Done 96 0) (Done 48 0)
+
+abbrev pub EmptyGroup : Type 0
+EmptyGroup = Holds comment-text 42 45 (Done 96 0) (Done 96 0)
+
 pub record Examples : Type 0 where
   pub labels-needed : LabelsNeeded
   pub symbols-needed : SymbolsNeeded
   pub inner-group : InnerGroup
   pub outer-group : OuterGroup
   pub nested-variable : NestedVariable
+  pub comment-group : CommentGroup
+  pub empty-group : EmptyGroup
