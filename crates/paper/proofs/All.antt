@@ -38,12 +38,14 @@ all-both nil nil = nil
 all-both (cons h a) (cons k b) = cons (h, k) (all-both a b)
 
 -- of all that the members of a list give
-pub all-gather : {A B : Type 0} {P : A → Type 0} {Q : B → Type 0} (f : A → List B) {l : List A} → ((x : A) → P x → All Q (f x)) → All P l → All Q (gather f l)
+pub all-gather : {A B : Type 0} {P : A → Type 0} {Q : B → Type 0} (f : A → List B) {l : List A}
+    → ((x : A) → P x → All Q (f x)) → All P l → All Q (gather f l)
 unfolding gather
 all-gather f g nil = nil
 all-gather f g (cons {x = x} h a) = all-append (g x h) (all-gather f g a)
 
-pub all-ungather : {A B : Type 0} {Q : B → Type 0} (f : A → List B) (l : List A) → All Q (gather f l) → All (λ x. All Q (f x)) l
+pub all-ungather : {A B : Type 0} {Q : B → Type 0} (f : A → List B) (l : List A) → All Q (gather f l)
+    → All (λ x. All Q (f x)) l
 unfolding gather
 all-ungather f [] a = nil
 all-ungather f (x ∷ l) a = cons (all-left (f x) (gather f l) a) (all-ungather f l (all-right (f x) (gather f l) a))

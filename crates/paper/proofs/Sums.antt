@@ -29,13 +29,15 @@ unfolding total
 total-map f g [] = refl
 total-map f g (x ∷ l) = ap (λ (n : ℕ). f (g x) + n) (total-map f g l)
 
-pub total-gather : {A B : Type 0} (f : B → ℕ) (g : A → List B) (l : List A) → total f (gather g l) ≡ total (λ x. total f (g x)) l
+pub total-gather : {A B : Type 0} (f : B → ℕ) (g : A → List B) (l : List A)
+    → total f (gather g l) ≡ total (λ x. total f (g x)) l
 unfolding total gather
 total-gather f g [] = refl
 total-gather f g (x ∷ l) = omega (arith, total-append f (g x) (gather g l), total-gather f g l)
 
 -- at most k times as much
-pub total-times : {A : Type 0} (k : ℕ) (f g : A → ℕ) → ((x : A) → f x ≤ k * g x) → (l : List A) → total f l ≤ k * total g l
+pub total-times : {A : Type 0} (k : ℕ) (f g : A → ℕ) → ((x : A) → f x ≤ k * g x) → (l : List A)
+    → total f l ≤ k * total g l
 unfolding total
 total-times k f g h [] = omega arith
 total-times k f g h (x ∷ l) = omega (arith, h x, total-times k f g h l)

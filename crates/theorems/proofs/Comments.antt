@@ -39,7 +39,8 @@ pub record Shown (l : List Token) (m : Place) (u : List Token) (t : Token) (v : 
   pub plain : key 40 t ≡ false
   pub right : visible behind outside ≡ v
 
-hidden : {m n : Place} {x : Token} {l : List Token} {u : List Token} {t : Token} {v : List Token} → next m x ≡ n → shown m x ≡ [] → Shown l n u t v → Shown (x ∷ l) m u t v
+hidden : {m n : Place} {x : Token} {l : List Token} {u : List Token} {t : Token} {v : List Token} → next m x ≡ n
+    → shown m x ≡ [] → Shown l n u t v → Shown (x ∷ l) m u t v
 unfolding visible after
 hidden {x = x} a b c =
     record {
@@ -53,7 +54,9 @@ hidden {x = x} a b c =
     }
 
 -- the token x is visible: it is t, or one before it
-first : (x : Token) (l u : List Token) (t : Token) (v : List Token) → key 40 x ≡ false → ((y : List Token) → visible l outside ≡ y ++ (t ∷ v) → Shown l outside y t v) → x ∷ visible l outside ≡ u ++ (t ∷ v) → Shown (x ∷ l) outside u t v
+first : (x : Token) (l u : List Token) (t : Token) (v : List Token) → key 40 x ≡ false
+    → ((y : List Token) → visible l outside ≡ y ++ (t ∷ v) → Shown l outside y t v)
+    → x ∷ visible l outside ≡ u ++ (t ∷ v) → Shown (x ∷ l) outside u t v
 unfolding visible after
 first x l [] t v k f e =
     let a : x ≡ t = cc in
@@ -79,7 +82,8 @@ first x l (y ∷ u) t v k f e =
       right = c .right;
     }
 
-pub shown-cut : (l : List Token) (m : Place) (u : List Token) (t : Token) (v : List Token) → visible l m ≡ u ++ (t ∷ v) → Shown l m u t v
+pub shown-cut : (l : List Token) (m : Place) (u : List Token) (t : Token) (v : List Token)
+    → visible l m ≡ u ++ (t ∷ v) → Shown l m u t v
 unfolding visible
 shown-cut [] m u t v e = absurd (not-nil u t v e)
 shown-cut (x ∷ l) outside u t v e =
@@ -91,7 +95,8 @@ shown-cut (x ∷ l) (inside o) u t v e =
     (λ k. hidden {n = outside} (rw k) refl (shown-cut l outside u t v (rw k at e)))
     (λ k. hidden {n = inside o} (rw k) refl (shown-cut l (inside o) u t v (rw k at e)))
 
-pub shown-after : {l : List Token} {m : Place} {u : List Token} {t : Token} {v : List Token} (c : Shown l m u t v) → after l m ≡ after (c .behind) outside
+pub shown-after : {l : List Token} {m : Place} {u : List Token} {t : Token} {v : List Token} (c : Shown l m u t v)
+    → after l m ≡ after (c .behind) outside
 unfolding after
 shown-after {m = m} {t = t} c =
     ap (λ (r : List Token). after r m) (c .tokens)

@@ -65,7 +65,8 @@ module _ {t : List ℕ} {p q : ℕ} (x : Parts t p q) where
       (all-append (blanks-good (4 + length (x .body))) (all-right (36 ∷ 125 ∷ []) (x .back) c))) 0)
 
 -- numbers 1 to 6
-blanked-passes : {t : List ℕ} {p q : ℕ} {i : List Item} {w : ℕ} {l : List Statement} (x : Split t p q i) → Passed t w l → Passed (blanked t p q) w (ends (x .front ++ x .back) [])
+blanked-passes : {t : List ℕ} {p q : ℕ} {i : List Item} {w : ℕ} {l : List Statement} (x : Split t p q i)
+    → Passed t w l → Passed (blanked t p q) w (ends (x .front ++ x .back) [])
 unfolding words
 blanked-passes {t} {p} {q} x h =
     record {
@@ -97,7 +98,9 @@ module _ {A B : Type 0} (f : A → List B) (a b c : List A) where
       (all-append (all-left (gather f a) (gather f (b ++ c)) g) (all-right (gather f b) (gather f c) k))
 
   -- the members outside the group are those of the outer parts
-  gather-kept : (at : B → ℕ) (p q : ℕ) → All (λ x. All (λ y. at y < p) (f x)) a → All (λ x. All (λ y. (p ≤ at y) × (at y < q)) (f x)) b → All (λ x. All (λ y. q < at y) (f x)) c → keep (λ y. not (within p q (at y))) (gather f (a ++ (b ++ c))) ≡ gather f (a ++ c)
+  gather-kept : (at : B → ℕ) (p q : ℕ) → All (λ x. All (λ y. at y < p) (f x)) a
+      → All (λ x. All (λ y. (p ≤ at y) × (at y < q)) (f x)) b → All (λ x. All (λ y. q < at y) (f x)) c
+      → keep (λ y. not (within p q (at y))) (gather f (a ++ (b ++ c))) ≡ gather f (a ++ c)
   gather-kept at p q h i j =
       let k : B → Bool = λ y. not (within p q (at y)) in
       rw (
@@ -142,7 +145,8 @@ module _ {w x : List Statement} {p q : ℕ} (h : Three w x p q) (k : Parted w x 
         diags-fit = rw (k .without) (omega (arith, gather-less diag-records a b c, rw (k .whole) at (y .diags-fit)));
       }
 
-  streams-are : Exact w (streams (all-given w)) p q → streams (all-given x) ≡ streams-without p q (streams (all-given w))
+  streams-are : Exact w (streams (all-given w)) p q
+      → streams (all-given x) ≡ streams-without p q (streams (all-given w))
   streams-are e =
       let a : taken-out p q (frame-stream (all-given w)) ≡ frame-stream (all-given x) =
       e .frames-stay ∙ (ap (gather frame-record) frames-kept ∙ sym (frame-stream-is (all-given x))) in
@@ -152,7 +156,8 @@ module _ {w x : List Statement} {p q : ℕ} (h : Three w x p q) (k : Parted w x 
 
 -- ---- the theorem
 -- by the outcome of the blanked text
-pub blanked-gives : (t w f d : List ℕ) (p q : ℕ) (s : Streams) → outcome t (length w) (length f) (length d) ≡ given s → outcome (blanked t p q) (length w) (length f) (length d) ≡ given (streams-without p q s) → Blanked t w f d p q
+pub blanked-gives : (t w f d : List ℕ) (p q : ℕ) (s : Streams) → outcome t (length w) (length f) (length d) ≡ given s
+    → outcome (blanked t p q) (length w) (length f) (length d) ≡ given (streams-without p q s) → Blanked t w f d p q
 unfolding answer frames-exit diags-exit
 blanked-gives t w f d p q s a b =
     record {
@@ -164,7 +169,9 @@ blanked-gives t w f d p q s a b =
       diags-held = rw b;
     }
 
-without-it : (t : List ℕ) (w f d p q : ℕ) (s : Streams) (g : Group t p q) → reading t w ≡ given (statements g) → Fits (all-given (statements g)) f d → streams (all-given (statements g)) ≡ s → Apart (statements g) p q → outcome (blanked t p q) w f d ≡ given (streams-without p q s)
+without-it : (t : List ℕ) (w f d p q : ℕ) (s : Streams) (g : Group t p q) → reading t w ≡ given (statements g)
+    → Fits (all-given (statements g)) f d → streams (all-given (statements g)) ≡ s → Apart (statements g) p q
+    → outcome (blanked t p q) w f d ≡ given (streams-without p q s)
 without-it t w f d p q s g r y e a =
     let l = statements g in
     let h = passed t w l r in

@@ -137,7 +137,8 @@ pub record Above (i : List Item) (d q : ℕ) (l : List ℕ) : Type 0 where
   pub count : length more ≡ d
   pub low : All (λ n. n < q) more
 
-pop : {c : List ℕ} {d q : ℕ} {l : List ℕ} (m : List ℕ) → c ≡ m ++ (q ∷ l) → length m ≡ suc d → All (λ n. n < q) m → (k : List ℕ) × (tail c ≡ k ++ (q ∷ l)) × (length k ≡ d) × All (λ n. n < q) k
+pop : {c : List ℕ} {d q : ℕ} {l : List ℕ} (m : List ℕ) → c ≡ m ++ (q ∷ l) → length m ≡ suc d → All (λ n. n < q) m
+    → (k : List ℕ) × (tail c ≡ k ++ (q ∷ l)) × (length k ≡ d) × All (λ n. n < q) k
 pop [] e h a = absurd (omega arith)
 pop (x ∷ m) e h (cons b a) = (m, ap tail e, omega arith, a)
 
@@ -165,7 +166,8 @@ none-more [] e h = e
 none-more (x ∷ m) e h = absurd (omega arith)
 
 -- a group leaves the closers after it alone
-pub neutral : {i : List Item} (q : ℕ) (l : List ℕ) → Level i 0 0 → All (ItemAt (λ n. n < q)) i → closers i (q ∷ l) ≡ q ∷ l
+pub neutral : {i : List Item} (q : ℕ) (l : List ℕ) → Level i 0 0 → All (ItemAt (λ n. n < q)) i
+    → closers i (q ∷ l) ≡ q ∷ l
 neutral q l v a = let r = above q l v a in none-more (r .more) (r .are) (r .count)
 
 -- ---- E4: all inside ends by q
@@ -173,7 +175,8 @@ top-low : (q : ℕ) (l m : List ℕ) → All (λ n. n < q) m → top (m ++ (q �
 top-low q l [] nil = omega arith
 top-low q l (x ∷ m) (cons h a) = omega arith
 
-pub ends-low : {i : List Item} {d : ℕ} (q : ℕ) (l : List ℕ) → Level i d 0 → All (ItemAt (λ n. n < q)) i → All (λ s. s .end ≤ q) (ends i (q ∷ l))
+pub ends-low : {i : List Item} {d : ℕ} (q : ℕ) (l : List ℕ) → Level i d 0 → All (ItemAt (λ n. n < q)) i
+    → All (λ s. s .end ≤ q) (ends i (q ∷ l))
 unfolding ends
 ends-low q l flat nil = nil
 ends-low q l (opened v) (cons h a) = ends-low q l v a

@@ -37,7 +37,8 @@ abbrev first-kind : Outcome Streams → ℕ
 first-kind (refused r) = 0
 first-kind (given s) = getD (s .diags) 4 0
 
-same-kind : {t : List ℕ} {p q : ℕ} → Blanked t buffer buffer buffer p q → first-kind (outcome-of (blanked t p q)) ≡ first-kind (without p q (outcome-of t))
+same-kind : {t : List ℕ} {p q : ℕ} → Blanked t buffer buffer buffer p q
+    → first-kind (outcome-of (blanked t p q)) ≡ first-kind (without p q (outcome-of t))
 same-kind {p = p} {q = q} b = ap first-kind (b .are ∙ sym (ap (without p q) (b .were)))
 
 pub examples : Examples

@@ -44,7 +44,8 @@ pub record Carries (e : ℕ) (r : State) : Type 0 where
 carries-nothing : (e : ℕ) → Carries e nothing
 carries-nothing e = record { nested = nil; hyps = nil; disjoints = nil }
 
-accept-carries : (d : List Diag) {e : ℕ} {r : State} (f : List Frame) → Carries e r → Carries e (accept d r f .records)
+accept-carries : (d : List Diag) {e : ℕ} {r : State} (f : List Frame) → Carries e r
+    → Carries e (accept d r f .records)
 accept-carries [] f c = c
 accept-carries (x ∷ d) {e} f c = carries-nothing e
 
@@ -56,7 +57,8 @@ recorded-carries : (v : Verdict) (e : ℕ) (t : Token) → All (λ x. x .end ≡
 recorded-carries (against k o) e t = nil
 recorded-carries record-it e t = cons refl nil
 
-records-carry : (w : List Statement) (e : ℕ) (l : List Token) (k : List Nested) → All (λ x. x .end ≡ e) (nested-records w e l k)
+records-carry : (w : List Statement) (e : ℕ) (l : List Token) (k : List Nested)
+    → All (λ x. x .end ≡ e) (nested-records w e l k)
 unfolding nested-records records
 records-carry w e [] k = nil
 records-carry w e (t ∷ l) k =
@@ -113,7 +115,8 @@ plus-nothing x = rw (append-nil (x .nested), append-nil (x .hyps), append-nil (x
 abbrev pub Alike : ℕ → State → State → Type 0
 Alike q x y = (a : ℕ) → q < a → view x a ≡ view y a
 
-pub quiet : {q : ℕ} (w : List Statement) {l : List Statement} → All (λ s. s .end ≤ q) l → (x : State) → Alike q (later w l x) x
+pub quiet : {q : ℕ} (w : List Statement) {l : List Statement} → All (λ s. s .end ≤ q) l → (x : State)
+    → Alike q (later w l x) x
 unfolding later
 quiet w nil x a h = refl
 quiet w (cons {x = s} k b) x a h =
@@ -124,7 +127,8 @@ quiet w (cons {x = s} k b) x a h =
     ∙ plus-nothing (view x a)))
 
 -- ---- F3: before the group
-pub before-same : {w u l : List Statement} → All (Agree w u) l → (x : State) → (gives w l x ≡ gives u l x) × (later w l x ≡ later u l x)
+pub before-same : {w u l : List Statement} → All (Agree w u) l → (x : State)
+    → (gives w l x ≡ gives u l x) × (later w l x ≡ later u l x)
 unfolding gives later
 before-same nil x = (refl, refl)
 before-same {w} {u} (cons {x = s} {l = l} h a) x =
@@ -133,7 +137,8 @@ before-same {w} {u} (cons {x = s} {l = l} h a) x =
     (rw e (ap (λ (k : List Given). give u (view x (s .at)) s ∷ k) (r .0)), rw e (r .1))
 
 -- ---- F6: after the group
-pub behind-same : {w u l : List Statement} {q : ℕ} (x y : State) → Alike q x y → All (λ s. q < s .at) l → All (Agree w u) l → gives w l x ≡ gives u l y
+pub behind-same : {w u l : List Statement} {q : ℕ} (x y : State) → Alike q x y → All (λ s. q < s .at) l
+    → All (Agree w u) l → gives w l x ≡ gives u l y
 unfolding gives
 behind-same x y k nil nil = refl
 behind-same {w} {u} {q = q} x y k (cons {x = s} p b) (cons h a) =
@@ -151,7 +156,8 @@ pub record Parted (w x : List Statement) (h : List Statement) (i : List Statemen
   pub whole : all-given w ≡ gives w h nothing ++ (gives w i first ++ gives w b third)
   pub without : all-given x ≡ gives w h nothing ++ gives w b third
 
-pub parted : {w x : List Statement} {p q : ℕ} (h : Three w x p q) → q < none-end → Apart w p q → Parted w x (h .before) (h .within-it) (h .behind)
+pub parted : {w x : List Statement} {p q : ℕ} (h : Three w x p q) → q < none-end → Apart w p q
+    → Parted w x (h .before) (h .within-it) (h .behind)
 unfolding all-given
 parted {w} {x} {p} {q} h k a =
     let g : All (Agree w x) (h .before ++ h .behind) = subst (All (Agree w x)) (h .without) (agree h a k) in

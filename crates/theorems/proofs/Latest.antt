@@ -40,25 +40,30 @@ module _ {A : Type 0} (end : A → ℕ) (is : List ℕ → A → Bool) where
   Single m l = Pairwise (Ended end is m) l
 
   -- not seen at a: ended by then, or of another name
-  not-seen : {y : A} (a : ℕ) (l : List A) → All (λ x. Apart is x y) (keep (λ x. ltb a (end x)) l) → All (λ x. Ended end is a x y) l
+  not-seen : {y : A} (a : ℕ) (l : List A) → All (λ x. Apart is x y) (keep (λ x. ltb a (end x)) l)
+      → All (λ x. Ended end is a x y) l
   not-seen a l h =
       all-map (λ x k n i j. split (ltb a (end x)) (λ e. absurd (k e n i j)) (λ e. ltb-false a (end x) e))
       (all-unkeep (λ x. ltb a (end x)) l h)
 
   -- what is recorded at a is of no name that is seen there, and no two of it are of one name
-  pub single-step : {m a : ℕ} {l new : List A} → Single m l → m ≤ a → All (λ y. All (λ x. Apart is x y) (keep (λ x. ltb a (end x)) l)) new → Pairwise (Apart is) new → Single a (l ++ new)
+  pub single-step : {m a : ℕ} {l new : List A} → Single m l → m ≤ a
+      → All (λ y. All (λ x. Apart is x y) (keep (λ x. ltb a (end x)) l)) new → Pairwise (Apart is) new
+      → Single a (l ++ new)
   single-step {m} {a} {l} p h b q =
       pairwise-append (pairwise-map (λ x y k n i j. omega (arith, k n i j)) p) (pairwise-map (λ x y k n i j. absurd (k n i j)) q)
       (all-turn l (all-map (λ y k. not-seen a l k) b))
 
   -- ---- I1, I2: of one name at most one is active
-  pub one-active : {m : ℕ} {l : List A} → Single m l → (a : ℕ) → m ≤ a → Pairwise (Apart is) (keep (λ x. ltb a (end x)) l)
+  pub one-active : {m : ℕ} {l : List A} → Single m l → (a : ℕ) → m ≤ a
+      → Pairwise (Apart is) (keep (λ x. ltb a (end x)) l)
   one-active p a h =
       pairwise-map (λ x y k n i j. absurd (omega (arith, k .0 n i j, ltb-true a (end x) (k .1))))
       (pairwise-keep (λ x. ltb a (end x)) p)
 
   -- ---- I3: the latest of a name in a view
-  latest-in : {P : A → Type 0} {l : List A} (t : A → Bool) (y : A) → latest t l ≡ some y → All P l → P y × (t y ≡ true)
+  latest-in : {P : A → Type 0} {l : List A} (t : A → Bool) (y : A) → latest t l ≡ some y → All P l
+      → P y × (t y ≡ true)
   unfolding latest
   latest-in t y e nil = let c : true ≡ false = cc in absurd (clash c)
   latest-in {P} t y e (cons {x = x} {l = l} h a) =
@@ -72,7 +77,8 @@ module _ {A : Type 0} (end : A → ℕ) (is : List ℕ → A → Bool) where
       (rw (← c) h, rw (← c) k))
       (λ k. let j : none ≡ some y = rw (g, k) at e in let c : true ≡ false = cc in absurd (clash c)))
 
-  pub latest-active : {m : ℕ} {l : List A} → Single m l → (n : List ℕ) (a : ℕ) → m ≤ a → latest (is n) (keep (λ x. ltb a (end x)) l) ≡ if-active end a (latest (is n) l)
+  pub latest-active : {m : ℕ} {l : List A} → Single m l → (n : List ℕ) (a : ℕ) → m ≤ a
+      → latest (is n) (keep (λ x. ltb a (end x)) l) ≡ if-active end a (latest (is n) l)
   unfolding latest keep
   latest-active alone n a h = refl
   latest-active {m} (then {x = x} {l = l} k p) n a h =
@@ -126,7 +132,8 @@ name-apart n x y e h k i j =
     let a : n ≡ k = sym e ∙ same-eq (y .name) k j in
     clash (sym i ∙ (ap (λ (z : List ℕ). sameb (x .name) z) (sym a) ∙ h))
 
-one-new : (w : List Statement) (e : ℕ) (known : List Nested) (t : Token) (v : Verdict) → verdict w known t ≡ v → All (λ y. All (λ x. Apart nested-name x y) known) (recorded-by v e t)
+one-new : (w : List Statement) (e : ℕ) (known : List Nested) (t : Token) (v : Verdict) → verdict w known t ≡ v
+    → All (λ y. All (λ x. Apart nested-name x y) known) (recorded-by v e t)
 unfolding verdict nested-of
 one-new w e known t (against k o) h = nil
 one-new w e known t record-it h =
@@ -141,7 +148,8 @@ one-alone : (v : Verdict) (e : ℕ) (t : Token) → Pairwise (Apart nested-name)
 one-alone (against k o) e t = alone
 one-alone record-it e t = then nil alone
 
-nested-new : (w : List Statement) (e : ℕ) (l : List Token) (known : List Nested) → All (λ y. All (λ x. Apart nested-name x y) known) (nested-records w e l known)
+nested-new : (w : List Statement) (e : ℕ) (l : List Token) (known : List Nested)
+    → All (λ y. All (λ x. Apart nested-name x y) known) (nested-records w e l known)
 unfolding nested-records records
 nested-new w e [] known = nil
 nested-new w e (t ∷ l) known =
@@ -149,7 +157,8 @@ nested-new w e (t ∷ l) known =
     all-append (one-new w e known t (verdict w known t) refl)
     (all-map (λ y k. all-left known r k) (nested-new w e l (known ++ r)))
 
-nested-apart : (w : List Statement) (e : ℕ) (l : List Token) (known : List Nested) → Pairwise (Apart nested-name) (nested-records w e l known)
+nested-apart : (w : List Statement) (e : ℕ) (l : List Token) (known : List Nested)
+    → Pairwise (Apart nested-name) (nested-records w e l known)
 unfolding nested-records records
 nested-apart w e [] known = alone
 nested-apart w e (t ∷ l) known =
@@ -183,12 +192,14 @@ if-none-none : (a b : List Diag) → if-none a b ≡ [] → b ≡ []
 if-none-none [] b e = e
 if-none-none (x ∷ a) b e = let d : true ≡ false = cc in absurd (clash d)
 
-float-apart : (n : List ℕ) (x : Hyp) (o e : ℕ) (c : List ℕ) → float-name n x ≡ false → Apart float-name x (float o e n c)
+float-apart : (n : List ℕ) (x : Hyp) (o e : ℕ) (c : List ℕ) → float-name n x ≡ false
+    → Apart float-name x (float o e n c)
 float-apart n x o e c h k i j =
     let a : n ≡ k = same-eq n k j in
     clash (sym i ∙ (ap (λ (z : List ℕ). float-name z x) (sym a) ∙ h))
 
-float-fresh : (w : List Statement) (v : State) (s : Statement) (e : ℕ) (c : List ℕ) → check-float w v s ≡ [] → All (λ x. Apart float-name x (float (s .at) e (token s 1 .bytes) c)) (v .hyps)
+float-fresh : (w : List Statement) (v : State) (s : Statement) (e : ℕ) (c : List ℕ) → check-float w v s ≡ []
+    → All (λ x. Apart float-name x (float (s .at) e (token s 1 .bytes) c)) (v .hyps)
 unfolding check-float float-of
 float-fresh w v s e c h =
     all-map (λ x k. float-apart (token s 1 .bytes) x (s .at) e c k)
@@ -250,7 +261,8 @@ pub record Singles (m : ℕ) (x : State) : Type 0 where
   pub nested : Single (λ y. y .end) nested-name m (x .nested)
   pub hyps : Single hyp-end float-name m (x .hyps)
 
-singles-step : {m : ℕ} {x : State} (w : List Statement) (s : Statement) → Singles m x → m ≤ s .at → Singles (s .at) (plus x (give w (view x (s .at)) s .records))
+singles-step : {m : ℕ} {x : State} (w : List Statement) (s : Statement) → Singles m x → m ≤ s .at
+    → Singles (s .at) (plus x (give w (view x (s .at)) s .records))
 unfolding view
 singles-step {x = x} w s h b =
     let f = fresh w (view x (s .at)) s in
@@ -265,14 +277,16 @@ pub record Once (x : State) (s : Statement) : Type 0 where
   pub before : from ≤ s .at
   pub singles : Singles from x
 
-once : (w a : List Statement) (s : Statement) (rest : List Statement) (m : ℕ) (x : State) → Singles m x → All (λ r. m ≤ r .at) (a ++ (s ∷ rest)) → Pairwise Before (a ++ (s ∷ rest)) → Once (later w a x) s
+once : (w a : List Statement) (s : Statement) (rest : List Statement) (m : ℕ) (x : State) → Singles m x
+    → All (λ r. m ≤ r .at) (a ++ (s ∷ rest)) → Pairwise Before (a ++ (s ∷ rest)) → Once (later w a x) s
 unfolding later
 once w [] s rest m x h (cons b l) r = record { from = m; before = b; singles = h }
 once w (u ∷ a) s rest m x h (cons b l) (then k r) =
     once w a s rest (u .at) (plus x (give w (view x (u .at)) u .records)) (singles-step w u h b)
     (all-map (λ y z. omega arith) k) r
 
-pub once-at : (w a : List Statement) (s : Statement) (rest : List Statement) → Pairwise Before (a ++ (s ∷ rest)) → Once (later w a nothing) s
+pub once-at : (w a : List Statement) (s : Statement) (rest : List Statement) → Pairwise Before (a ++ (s ∷ rest))
+    → Once (later w a nothing) s
 once-at w a s rest r =
     once w a s rest 0 nothing (record { nested = alone; hyps = alone }) (from-zero (a ++ (s ∷ rest))) r
   where
@@ -281,10 +295,12 @@ once-at w a s rest r =
     from-zero (r ∷ l) = cons {x = r} (omega arith) (from-zero l)
 
 -- ---- I3 at a statement: what it finds in its view is the latest recorded, if active
-pub nested-latest : {x : State} {s : Statement} → Once x s → (n : List ℕ) → nested-of (view x (s .at) .nested) n ≡ if-active (λ y. y .end) (s .at) (nested-of (x .nested) n)
+pub nested-latest : {x : State} {s : Statement} → Once x s → (n : List ℕ)
+    → nested-of (view x (s .at) .nested) n ≡ if-active (λ y. y .end) (s .at) (nested-of (x .nested) n)
 unfolding nested-of view
 nested-latest {s = s} o n = latest-active (λ y. y .end) nested-name (o .singles .nested) n (s .at) (o .before)
 
-pub float-latest : {x : State} {s : Statement} → Once x s → (n : List ℕ) → float-of (view x (s .at) .hyps) n ≡ if-active hyp-end (s .at) (float-of (x .hyps) n)
+pub float-latest : {x : State} {s : Statement} → Once x s → (n : List ℕ)
+    → float-of (view x (s .at) .hyps) n ≡ if-active hyp-end (s .at) (float-of (x .hyps) n)
 unfolding float-of view
 float-latest {s = s} o n = latest-active hyp-end float-name (o .singles .hyps) n (s .at) (o .before)

@@ -65,7 +65,8 @@ nth-tail [] d = refl
 nth-tail (q ∷ l) d = refl
 
 -- ---- E5
-below : (d : ℕ) {i : List Item} → All (ItemAt (λ n. n < none-end)) i → Pairwise ItemBefore i → All (λ r. r .at < nth (closers i []) d → r .end ≤ nth (closers i []) d) (ends i [])
+below : (d : ℕ) {i : List Item} → All (ItemAt (λ n. n < none-end)) i → Pairwise ItemBefore i
+    → All (λ r. r .at < nth (closers i []) d → r .end ≤ nth (closers i []) d) (ends i [])
 unfolding closers ends nth
 below d nil alone = nil
 below d (cons {x = opens p} h b) (then {l = i} a r) = rw (nth-tail (closers i []) d) (below (suc d) b r)
@@ -117,14 +118,16 @@ pub record Ranked (l : List Statement) : Type 0 where
   pub nest : Pairwise Nests l
   pub live : All Lives l
 
-low-items : (t : List ℕ) (i : List Item) → length t ≤ 16777216 → items (tokens t) (length t) ≡ given i → All (ItemAt (λ n. n < none-end)) i
+low-items : (t : List ℕ) (i : List Item) → length t ≤ 16777216 → items (tokens t) (length t) ≡ given i
+    → All (ItemAt (λ n. n < none-end)) i
 unfolding tokens
 low-items t i h e =
     reads-at (λ n. n < none-end) (read-reads (items-read (tokens t) (length t) i e))
     (shown-at t 0 (λ n. n < none-end) (λ n g k. omega arith) refl refl)
     (λ n g. g)
 
-ranked-items : (t : List ℕ) (i : List Item) → length t ≤ 16777216 → items (tokens t) (length t) ≡ given i → Ranked (ends i [])
+ranked-items : (t : List ℕ) (i : List Item) → length t ≤ 16777216 → items (tokens t) (length t) ≡ given i
+    → Ranked (ends i [])
 ranked-items t i h e =
     let a = low-items t i h e in
     let r = items-rise t i e in

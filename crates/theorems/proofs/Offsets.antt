@@ -26,7 +26,8 @@ FrameOf o f = frame-at f ≡ o
 one : (k s i o : ℕ) → All (OfStatement s) (diag k s i o)
 one k s i o = cons refl nil
 
-each-at : {s : ℕ} (f : ℕ → Token → List Diag) → ((i : ℕ) (t : Token) → All (OfStatement s) (f i t)) → (l : List Token) (i : ℕ) → All (OfStatement s) (each f l i)
+each-at : {s : ℕ} (f : ℕ → Token → List Diag) → ((i : ℕ) (t : Token) → All (OfStatement s) (f i t))
+    → (l : List Token) (i : ℕ) → All (OfStatement s) (each f l i)
 unfolding each
 each-at f h [] i = nil
 each-at f h (t ∷ l) i = all-append (h i t) (each-at f h l (suc i))
@@ -53,7 +54,8 @@ outer-at w s =
     each-at (outer-token w (s .at))
     (λ i t. all-append (clash-at (owner w (t .bytes)) (s .at) i) (redeclared-at (global w (t .bytes)) (s .at) i t)) (s .math) 0
 
-nested-at : (w : List Statement) (s e : ℕ) (l : List Token) (i : ℕ) (k : List Nested) → All (OfStatement s) (nested-diags w s e l i k)
+nested-at : (w : List Statement) (s e : ℕ) (l : List Token) (i : ℕ) (k : List Nested)
+    → All (OfStatement s) (nested-diags w s e l i k)
 unfolding nested-diags
 nested-at w s e [] i k = nil
 nested-at w s e (t ∷ l) i k =
@@ -74,7 +76,8 @@ float-at : (h : Option Hyp) (s : ℕ) → All (OfStatement s) (float-diags h s)
 float-at none s = nil
 float-at (some h) s = cons refl nil
 
-if-none-at : {s : ℕ} (a b : List Diag) → All (OfStatement s) a → All (OfStatement s) b → All (OfStatement s) (if-none a b)
+if-none-at : {s : ℕ} (a b : List Diag) → All (OfStatement s) a → All (OfStatement s) b
+    → All (OfStatement s) (if-none a b)
 if-none-at [] b x y = y
 if-none-at (d ∷ a) b x y = x
 
@@ -121,7 +124,8 @@ pub record Stands (o : ℕ) (g : Given) : Type 0 where
 only-at : {o : ℕ} {d : List Diag} → All (OfStatement o) d → Stands o (only d)
 only-at a = record { diags = a; frame = nil }
 
-accept-at : {o : ℕ} (d : List Diag) (r : State) {f : List Frame} → All (OfStatement o) d → All (FrameOf o) f → Stands o (accept d r f)
+accept-at : {o : ℕ} (d : List Diag) (r : State) {f : List Frame} → All (OfStatement o) d → All (FrameOf o) f
+    → Stands o (accept d r f)
 accept-at [] r a b = record { diags = nil; frame = b }
 accept-at (x ∷ d) r a b = record { diags = a; frame = nil }
 
@@ -156,13 +160,15 @@ unfolding give
 give-at w v s = give-at-by (s .kind) w v s
 
 -- ---- what statements give one after the other: where they stand stand their diagnostics and frames
-pub diags-at : (P : ℕ → Type 0) (w : List Statement) {l : List Statement} → All (λ s. P (s .at)) l → (x : State) → All (λ g. All (λ d. P (d .statement)) (g .diags)) (gives w l x)
+pub diags-at : (P : ℕ → Type 0) (w : List Statement) {l : List Statement} → All (λ s. P (s .at)) l → (x : State)
+    → All (λ g. All (λ d. P (d .statement)) (g .diags)) (gives w l x)
 unfolding gives
 diags-at P w nil x = nil
 diags-at P w (cons {x = s} h a) x =
     cons (all-map (λ d e. rw e h) (give-at w (view x (s .at)) s .diags)) (diags-at P w a _)
 
-pub frames-at : (P : ℕ → Type 0) (w : List Statement) {l : List Statement} → All (λ s. P (s .at)) l → (x : State) → All (λ g. All (λ f. P (frame-at f)) (g .frame)) (gives w l x)
+pub frames-at : (P : ℕ → Type 0) (w : List Statement) {l : List Statement} → All (λ s. P (s .at)) l → (x : State)
+    → All (λ g. All (λ f. P (frame-at f)) (g .frame)) (gives w l x)
 unfolding gives
 frames-at P w nil x = nil
 frames-at P w (cons {x = s} h a) x =

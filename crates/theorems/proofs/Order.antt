@@ -29,7 +29,8 @@ abbrev pub Before : Statement → Statement → Type 0
 Before s r = s .at < r .at
 
 -- ---- tokens
-put-rises : (o n : ℕ) (h : List ℕ) {l : List Token} → All (Within (suc o) n) l → Pairwise TokenBefore l → Pairwise TokenBefore (put o h l)
+put-rises : (o n : ℕ) (h : List ℕ) {l : List Token} → All (Within (suc o) n) l → Pairwise TokenBefore l
+    → Pairwise TokenBefore (put o h l)
 put-rises o n [] a p = p
 put-rises o n (b ∷ h) a p = then {x = record { at = o; bytes = b ∷ h }} (all-map (λ t k. omega (arith, k .0)) a) p
 
@@ -64,20 +65,23 @@ hand-before (named t) o z a b = omega arith
 hand-before (math k p l m) o z a b = omega arith
 hand-before (proof p l m r) o z a b = omega arith
 
-hand-step : {m n : Mode} {d e : ℕ} {t : Token} {j : List Item} {u : List Token} → Gives m d t n e j → HandBefore m t → All (TokenBefore t) u → All (HandBefore n) u
+hand-step : {m n : Mode} {d e : ℕ} {t : Token} {j : List Item} {u : List Token} → Gives m d t n e j → HandBefore m t
+    → All (TokenBefore t) u → All (HandBefore n) u
 hand-step {n = n} {t = t} (quiet a b) h l = all-map (λ y k. hand-before n (t .at) (y .at) (rw a h) k) l
 hand-step (opening a b) h l = all-map (λ y k. omega arith) l
 hand-step (closing-one a b c) h l = all-map (λ y k. omega arith) l
 hand-step (stating a b) h l = all-map (λ y k. omega arith) l
 
-items-step : {m n : Mode} {d e : ℕ} {t : Token} {j i : List Item} → Gives m d t n e j → HandBefore m t → (n ≡ start → All (ItemAt (λ z. t .at < z)) i) → Pairwise ItemBefore i → Pairwise ItemBefore (j ++ i)
+items-step : {m n : Mode} {d e : ℕ} {t : Token} {j i : List Item} → Gives m d t n e j → HandBefore m t
+    → (n ≡ start → All (ItemAt (λ z. t .at < z)) i) → Pairwise ItemBefore i → Pairwise ItemBefore (j ++ i)
 items-step (quiet a b) h f p = p
 items-step {t = t} (opening a b) h f p = then {x = opens (t .at)} (f refl) p
 items-step {t = t} (closing-one a b c) h f p = then {x = closes (t .at)} (f refl) p
 items-step {t = t} (stating {s = s} a b) h f p =
     then {x = states s} (all-map (λ y k. omega (arith, rw (← a) at h)) (f refl)) p
 
-pub reads-rise : {u : List Token} {m n : Mode} {d e : ℕ} {i : List Item} → Reads u m d i n e → Pairwise TokenBefore u → All (HandBefore m) u → Pairwise ItemBefore i
+pub reads-rise : {u : List Token} {m n : Mode} {d e : ℕ} {i : List Item} → Reads u m d i n e → Pairwise TokenBefore u
+    → All (HandBefore m) u → Pairwise ItemBefore i
 reads-rise done p h = alone
 reads-rise (step {t = t} {m = m} {n = n} {d = d} e r) (then a p) (cons b h) =
     let g = allow-gives m d e in
@@ -104,5 +108,6 @@ items-rise t i e =
     always [] = nil
     always (t ∷ u) = cons {x = t} (omega arith) (always u)
 
-pub statements-rise : (t : List ℕ) (i : List Item) → items (tokens t) (length t) ≡ given i → Pairwise Before (ends i [])
+pub statements-rise : (t : List ℕ) (i : List Item) → items (tokens t) (length t) ≡ given i
+    → Pairwise Before (ends i [])
 statements-rise t i e = ends-rise [] (items-rise t i e)

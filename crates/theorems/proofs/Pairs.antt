@@ -47,7 +47,8 @@ unfolding any
 any-last x l = any-right (has (code x)) l (x ∷ []) (rw (eq-eqb (code x) (code x) refl))
 
 -- a pair with a free code takes it
-free-taken : (n : ℕ) (l : List Pair) (x : Pair) → code x < n → any (has (code x)) l ≡ false → suc (free n (l ++ (x ∷ []))) ≤ free n l
+free-taken : (n : ℕ) (l : List Pair) (x : Pair) → code x < n → any (has (code x)) l ≡ false
+    → suc (free n (l ++ (x ∷ []))) ≤ free n l
 unfolding free
 free-taken zero l x h e = omega arith
 free-taken (suc c) l x h e =

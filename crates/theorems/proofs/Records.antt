@@ -47,7 +47,8 @@ unless-short : (d : List Diag) (g : Given) → All Fit (g .frame) → All Fit (u
 unless-short [] g a = a
 unless-short (x ∷ d) g a = nil
 
-short-by : (k : Kind) (w : List Statement) (v : State) (s : Statement) → state-weight v + statement-weight s ≤ 16777217 → All Fit (give-by k w v s .frame)
+short-by : (k : Kind) (w : List Statement) (v : State) (s : Statement)
+    → state-weight v + statement-weight s ≤ 16777217 → All Fit (give-by k w v s .frame)
 unfolding give-c give-v give-d give-f give-e give-assertion
 short-by $c w v s h = split (outermost s) (λ e. rw e nil) (λ e. rw e nil)
 short-by $v w v s h = split (outermost s) (λ e. rw e nil) (λ e. rw e nil)
@@ -70,7 +71,8 @@ short-by $p w v s h =
     (accept-short (check-expression w v s) _
     (cons (full-short 3 s v (formula w v s) (omega (arith, formula-light w v s))) nil))
 
-gives-short : (w l : List Statement) (x : State) → state-weight x + statements-weight l ≤ 16777217 → All (λ g. All Fit (g .frame)) (gives w l x)
+gives-short : (w l : List Statement) (x : State) → state-weight x + statements-weight l ≤ 16777217
+    → All (λ g. All Fit (g .frame)) (gives w l x)
 unfolding gives give total
 gives-short w [] x h = nil
 gives-short w (s ∷ l) x h =
@@ -80,7 +82,8 @@ gives-short w (s ∷ l) x h =
     (gives-short w l (plus x r) (omega (arith, plus-weight x r, light w v s)))
 
 -- ---- where the statements of a text stand
-pub text-at : (t : List ℕ) (i : List Item) → items (tokens t) (length t) ≡ given i → All (λ s. s .at < length t) (ends i [])
+pub text-at : (t : List ℕ) (i : List Item) → items (tokens t) (length t) ≡ given i
+    → All (λ s. s .at < length t) (ends i [])
 unfolding tokens
 text-at t i e =
     ends-at (λ n. n < length t) []
@@ -126,7 +129,8 @@ module _ {l : List Statement} (small : All (λ s. s .at < 4294967296) l) where
       all-map (λ x h. diag-sound x h)
       (all-gather (λ g. g .diags) (λ g h. h) (diags-at (λ n. n < 4294967296) l small nothing))
 
-  pub frames-sound : statements-weight l ≤ 16777217 → find crowded (frames-in (all-given l)) ≡ none → All (λ x. Sound (frame-record x) (frame-at x)) (frames-in (all-given l))
+  pub frames-sound : statements-weight l ≤ 16777217 → find crowded (frames-in (all-given l)) ≡ none
+      → All (λ x. Sound (frame-record x) (frame-at x)) (frames-in (all-given l))
   unfolding all-given total
   frames-sound h c =
       all-map (λ x k. frame-sound x (k .0) (k .1 .0 (k .1 .1)))
@@ -135,7 +139,8 @@ module _ {l : List Statement} (small : All (λ s. s .at < 4294967296) l) where
       (find-none crowded (frames-in (all-given l)) c)))
 
 -- ---- the streams are the records one after the other
-gather-gather : {A B C : Type 0} (f : B → List C) (g : A → List B) (l : List A) → gather (λ x. gather f (g x)) l ≡ gather f (gather g l)
+gather-gather : {A B C : Type 0} (f : B → List C) (g : A → List B) (l : List A)
+    → gather (λ x. gather f (g x)) l ≡ gather f (gather g l)
 unfolding gather
 gather-gather f g [] = refl
 gather-gather f g (x ∷ l) = rw (gather-gather f g l) (sym (gather-append f (g x) (gather g l)))
@@ -149,7 +154,8 @@ unfolding diag-stream diag-records
 diag-stream-is l = gather-gather diag-record (λ g. g .diags) l
 
 -- ---- the walk finds exactly the records
-pub exact : (t : List ℕ) (w : ℕ) (l : List Statement) → Passed t w l → find crowded (frames-in (all-given l)) ≡ none → (p q : ℕ) → Exact l (streams (all-given l)) p q
+pub exact : (t : List ℕ) (w : ℕ) (l : List Statement) → Passed t w l → find crowded (frames-in (all-given l)) ≡ none
+    → (p q : ℕ) → Exact l (streams (all-given l)) p q
 exact t w l h c p q =
     let e = h .statements in
     let z : All (λ s. s .at < 16777216) l =

@@ -22,7 +22,8 @@ use Rattle.paper.proofs.Tests.{split, by-option, clash}
 use Rattle.paper.proofs.All.{All, nil, cons}
 
 -- ---- an outcome is a refusal or given
-pub by-outcome : {A P : Type 0} (o : Outcome A) → ((r : Refusal) → o ≡ refused r → P) → ((a : A) → o ≡ given a → P) → P
+pub by-outcome : {A P : Type 0} (o : Outcome A) → ((r : Refusal) → o ≡ refused r → P) → ((a : A) → o ≡ given a → P)
+    → P
 by-outcome (refused r) f g = f r refl
 by-outcome (given a) f g = g a refl
 
@@ -60,7 +61,8 @@ pub record Passed (t : List ℕ) (w : ℕ) (l : List Statement) : Type 0 where
   pub reads : items (tokens t) (length t) ≡ given read
   pub statements : l ≡ ends read []
 
-ended-given : (o : Outcome (List Item)) {l : List Statement} → with-ends o ≡ given l → (i : List Item) × (o ≡ given i) × (l ≡ ends i [])
+ended-given : (o : Outcome (List Item)) {l : List Statement} → with-ends o ≡ given l
+    → (i : List Item) × (o ≡ given i) × (l ≡ ends i [])
 ended-given (refused r) e = not-given e
 ended-given (given i) {l} e = (i, refl, cc)
 
@@ -95,7 +97,8 @@ pub record Fits (l : List Given) (f d : ℕ) : Type 0 where
   pub frames-fit : length (streams l .frames) ≤ f
   pub diags-fit : length (streams l .diags) ≤ d
 
-fitted : (l : List Given) (f d : ℕ) (s : Streams) → fitting (streams l) f d ≡ given s → (length (streams l .frames) ≤ f) × (length (streams l .diags) ≤ d) × (streams l ≡ s)
+fitted : (l : List Given) (f d : ℕ) (s : Streams) → fitting (streams l) f d ≡ given s
+    → (length (streams l .frames) ≤ f) × (length (streams l .diags) ≤ d) × (streams l ≡ s)
 fitted l f d s e =
     split (ltb f (length (streams l .frames)))
     (λ a. not-given {A = Streams} {r = ShortFrames (length (streams l .frames))} {a = s} (rw a at e))
@@ -135,7 +138,8 @@ answered t w f d s e =
     let k = fits (all-given l) f d s (rw a at e) in
     record { statements = l; passes = a; fit = k .0; are = k .1 })
 
-pub answering : (t : List ℕ) (w f d : ℕ) (l : List Statement) → reading t w ≡ given l → Fits (all-given l) f d → outcome t w f d ≡ given (streams (all-given l))
+pub answering : (t : List ℕ) (w f d : ℕ) (l : List Statement) → reading t w ≡ given l → Fits (all-given l) f d
+    → outcome t w f d ≡ given (streams (all-given l))
 unfolding outcome
 answering t w f d l e h = rw e (fitting-fits (all-given l) f d h)
 

@@ -20,7 +20,8 @@ put-append : (o : ℕ) (h : List ℕ) (x y : List Token) → put o h (x ++ y) �
 put-append o [] x y = refl
 put-append o (b ∷ h) x y = refl
 
-pub run-white : (a : List ℕ) (c : ℕ) (b : List ℕ) (o : ℕ) → white c ≡ true → run (a ++ (c ∷ b)) o ≡ record { head = run a o .head; rest = run a o .rest ++ toks b (suc (o + length a)) }
+pub run-white : (a : List ℕ) (c : ℕ) (b : List ℕ) (o : ℕ) → white c ≡ true
+    → run (a ++ (c ∷ b)) o ≡ record { head = run a o .head; rest = run a o .rest ++ toks b (suc (o + length a)) }
 unfolding run toks
 run-white [] c b o e = rw (e, add-zero)
 run-white (x ∷ a) c b o e =
@@ -29,7 +30,8 @@ run-white (x ∷ a) c b o e =
     (λ w. rw (w, put-append (suc o) (run a (suc o) .head) (run a (suc o) .rest) (toks b (suc (suc (o + length a))))))
     (λ w. rw w))
 
-pub toks-white : (a : List ℕ) (c : ℕ) (b : List ℕ) (o : ℕ) → white c ≡ true → toks (a ++ (c ∷ b)) o ≡ toks a o ++ toks b (suc (o + length a))
+pub toks-white : (a : List ℕ) (c : ℕ) (b : List ℕ) (o : ℕ) → white c ≡ true
+    → toks (a ++ (c ∷ b)) o ≡ toks a o ++ toks b (suc (o + length a))
 unfolding toks
 toks-white a c b o e = rw (run-white a c b o e) (put-append o (run a o .head) (run a o .rest) (toks b (suc (o + length a))))
 
@@ -84,7 +86,8 @@ record Later (l : List ℕ) (o : ℕ) (x : List Token) (t : Token) (z : List Tok
   left : run before o .rest ≡ x
   right : toks behind ((o + length before) + length (t .bytes)) ≡ z
 
-later-cut : {l : List ℕ} {o : ℕ} {x : List Token} {t : Token} {z : List Token} → Later l o x t z → Cut l o (put o (run l o .head) x) t z
+later-cut : {l : List ℕ} {o : ℕ} {x : List Token} {t : Token} {z : List Token} → Later l o x t z
+    → Cut l o (put o (run l o .head) x) t z
 unfolding toks
 later-cut c =
     record {
@@ -97,7 +100,9 @@ later-cut c =
     }
 
 -- by the run at the front: none, or the first token
-cut-by : (l : List ℕ) (o : ℕ) (h : List ℕ) (x : List Token) (t : Token) (z : List Token) → run l o .head ≡ h → ((y : List Token) → run l o .rest ≡ y ++ (t ∷ z) → Later l o y t z) → put o h (run l o .rest) ≡ x ++ (t ∷ z) → Cut l o x t z
+cut-by : (l : List ℕ) (o : ℕ) (h : List ℕ) (x : List Token) (t : Token) (z : List Token) → run l o .head ≡ h
+    → ((y : List Token) → run l o .rest ≡ y ++ (t ∷ z) → Later l o y t z) → put o h (run l o .rest) ≡ x ++ (t ∷ z)
+    → Cut l o x t z
 unfolding run toks
 cut-by l o [] x t z e f g = let c = later-cut (f x g) in rw e at c
 cut-by l o (b ∷ h) [] t z e f g =
@@ -119,7 +124,8 @@ cut-by l o (b ∷ h) (y ∷ x) t z e f g =
     let c = later-cut (f x v) in
     rw (e, u) at c
 
-cut-later : (l : List ℕ) (o : ℕ) (x : List Token) (t : Token) (z : List Token) → run l o .rest ≡ x ++ (t ∷ z) → Later l o x t z
+cut-later : (l : List ℕ) (o : ℕ) (x : List Token) (t : Token) (z : List Token) → run l o .rest ≡ x ++ (t ∷ z)
+    → Later l o x t z
 unfolding run toks
 cut-later [] o x t z g = absurd (not-nil x t z g)
 cut-later (b ∷ l) o x t z g =
@@ -164,7 +170,8 @@ pub record RunWithin (l : List ℕ) (o : ℕ) : Type 0 where
 wider : {lo hi lo′ hi′ : ℕ} {l : List Token} → lo′ ≤ lo → hi ≤ hi′ → All (Within lo hi) l → All (Within lo′ hi′) l
 wider a b h = all-map (λ t k. (omega arith, omega arith)) h
 
-put-within : (o n : ℕ) (h : List ℕ) (l : List Token) → length h ≤ n → All (Within (suc o) (o + n)) l → All (Within o (o + n)) (put o h l)
+put-within : (o n : ℕ) (h : List ℕ) (l : List Token) → length h ≤ n → All (Within (suc o) (o + n)) l
+    → All (Within o (o + n)) (put o h l)
 put-within o n [] l a b = wider (omega arith) (omega arith) b
 put-within o n (x ∷ h) l a b =
     cons {x = record { at = o; bytes = x ∷ h }} (omega arith, omega arith) (wider (omega arith) (omega arith) b)
@@ -200,7 +207,8 @@ pub record Parts (t : List ℕ) (p q : ℕ) : Type 0 where
   pub from : p ≡ length front
   pub to : q ≡ (p + 2) + length body
 
-pub blanked-parts : {t : List ℕ} {p q : ℕ} (x : Parts t p q) → blanked t p q ≡ x .front ++ (replicate (4 + length (x .body)) 32 ++ x .back)
+pub blanked-parts : {t : List ℕ} {p q : ℕ} (x : Parts t p q)
+    → blanked t p q ≡ x .front ++ (replicate (4 + length (x .body)) 32 ++ x .back)
 unfolding blanked laid
 blanked-parts {t} {p} {q} x =
     let n : span p q ≡ 4 + length (x .body) = omega (arith, x .to) in
@@ -211,6 +219,7 @@ blanked-parts {t} {p} {q} x =
     rw (n, length-replicate {A = ℕ} (4 + length (x .body)) 32, a, b)
 
 -- T6, the blanked side: the tokens before and after
-pub toks-parts : (a : List ℕ) (n : ℕ) (b : List ℕ) (o : ℕ) → toks (a ++ (replicate (suc n) 32 ++ b)) o ≡ toks a o ++ toks b (suc (o + length a) + n)
+pub toks-parts : (a : List ℕ) (n : ℕ) (b : List ℕ) (o : ℕ)
+    → toks (a ++ (replicate (suc n) 32 ++ b)) o ≡ toks a o ++ toks b (suc (o + length a) + n)
 toks-parts a n b o =
     toks-white a 32 (replicate n 32 ++ b) o white-32 ∙ rw (toks-blank n b (suc (o + length a)))

@@ -58,7 +58,8 @@ ends-weight (opens p ∷ i) l = omega (arith, ends-weight i l)
 ends-weight (closes q ∷ i) l = omega (arith, ends-weight i l)
 ends-weight (states s ∷ i) l = omega (arith, ends-weight i l)
 
-pub text-weight : (t : List ℕ) (i : List Item) → items (tokens t) (length t) ≡ given i → statements-weight (ends i []) ≤ suc (length t)
+pub text-weight : (t : List ℕ) (i : List Item) → items (tokens t) (length t) ≡ given i
+    → statements-weight (ends i []) ≤ suc (length t)
 unfolding tokens
 text-weight t i e =
     let r = reads-weight (read-reads (items-read (tokens t) (length t) i e)) in
@@ -105,16 +106,19 @@ unfolding total
 body-weight w v [] = refl
 body-weight w v (t ∷ l) = omega (arith, symbol-of-weight (sense w v t) (t .bytes), body-weight w v l)
 
-first-weight : (s : Statement) (m : List Token) → s .math ≡ m → length (token s 0 .bytes) + weight (drop 1 (s .math)) ≤ weight (s .math)
+first-weight : (s : Statement) (m : List Token) → s .math ≡ m
+    → length (token s 0 .bytes) + weight (drop 1 (s .math)) ≤ weight (s .math)
 unfolding total
 first-weight s [] e = rw e (omega arith)
 first-weight s (t ∷ m) e = rw e (omega arith)
 
-pub formula-light : (w : List Statement) (v : State) (s : Statement) → formula-weight (formula w v s) ≤ weight (s .math)
+pub formula-light : (w : List Statement) (v : State) (s : Statement)
+    → formula-weight (formula w v s) ≤ weight (s .math)
 unfolding formula
 formula-light w v s = omega (arith, body-weight w v (drop 1 (s .math)), first-weight s (s .math) refl)
 
-pub two-light : (s : Statement) (m : List Token) → s .math ≡ m → length (token s 1 .bytes) + length (token s 0 .bytes) ≤ weight (s .math)
+pub two-light : (s : Statement) (m : List Token) → s .math ≡ m
+    → length (token s 1 .bytes) + length (token s 0 .bytes) ≤ weight (s .math)
 unfolding total
 two-light s [] e = rw e (omega arith)
 two-light s (t ∷ []) e = rw e (omega arith)
@@ -125,17 +129,20 @@ unfolding total
 names-light [] = refl
 names-light (t ∷ l) = omega (arith, names-light l)
 
-accept-light : (n : ℕ) (d : List Diag) (r : State) (f : List Frame) → state-weight r ≤ n → state-weight (accept d r f .records) ≤ n
+accept-light : (n : ℕ) (d : List Diag) (r : State) (f : List Frame) → state-weight r ≤ n
+    → state-weight (accept d r f .records) ≤ n
 unfolding total
 accept-light n [] r f h = h
 accept-light n (x ∷ d) r f h = omega arith
 
-unless-light : (n : ℕ) (d : List Diag) (g : Given) → state-weight (g .records) ≤ n → state-weight (unless d g .records) ≤ n
+unless-light : (n : ℕ) (d : List Diag) (g : Given) → state-weight (g .records) ≤ n
+    → state-weight (unless d g .records) ≤ n
 unfolding total
 unless-light n [] g h = h
 unless-light n (x ∷ d) g h = omega arith
 
-light-by : (k : Kind) (w : List Statement) (v : State) (s : Statement) → state-weight (give-by k w v s .records) ≤ statement-weight s
+light-by : (k : Kind) (w : List Statement) (v : State) (s : Statement)
+    → state-weight (give-by k w v s .records) ≤ statement-weight s
 unfolding give-c give-v give-d give-f give-e give-assertion total
 light-by $c w v s = split (outermost s) (λ e. rw e (omega arith)) (λ e. rw e (omega arith))
 light-by $v w v s = split (outermost s) (λ e. rw e (omega arith)) (λ e. rw e (omega arith))

@@ -31,12 +31,14 @@ pub record Agree (w x : List Statement) (s : Statement) : Type 0 where
   pub label-owner : All (SameOwner w x) (bearer s)
   pub symbol-owners : All (SameOwner w x) (symbols s)
 
-each-same : {P : Token → Type 0} (f g : ℕ → Token → List Diag) → ((i : ℕ) (t : Token) → P t → f i t ≡ g i t) → {l : List Token} → All P l → (i : ℕ) → each f l i ≡ each g l i
+each-same : {P : Token → Type 0} (f g : ℕ → Token → List Diag) → ((i : ℕ) (t : Token) → P t → f i t ≡ g i t)
+    → {l : List Token} → All P l → (i : ℕ) → each f l i ≡ each g l i
 unfolding each
 each-same f g h nil i = refl
 each-same f g h (cons {x = t} p a) i = rw (h i t p, each-same f g h a (suc i))
 
-each-equal : (f g : ℕ → Token → List Diag) → ((i : ℕ) (t : Token) → f i t ≡ g i t) → (l : List Token) (i : ℕ) → each f l i ≡ each g l i
+each-equal : (f g : ℕ → Token → List Diag) → ((i : ℕ) (t : Token) → f i t ≡ g i t) → (l : List Token) (i : ℕ)
+    → each f l i ≡ each g l i
 unfolding each
 each-equal f g h [] i = refl
 each-equal f g h (t ∷ l) i = rw (h i t, each-equal f g h l (suc i))
@@ -50,7 +52,8 @@ module _ (w x : List Statement) (d : declared w ≡ declared x) where
   unfolding global
   global-same n = rw d
 
-  outer-same : (s i : ℕ) (t : Token) → owner w (t .bytes) ≡ owner x (t .bytes) → outer-token w s i t ≡ outer-token x s i t
+  outer-same : (s i : ℕ) (t : Token) → owner w (t .bytes) ≡ owner x (t .bytes)
+      → outer-token w s i t ≡ outer-token x s i t
   outer-same s i t o = rw (o, global-same (t .bytes))
 
   verdict-same : (l : List Nested) (t : Token) → verdict w l t ≡ verdict x l t
@@ -62,7 +65,8 @@ module _ (w x : List Statement) (d : declared w ≡ declared x) where
   records-same e [] k = refl
   records-same e (t ∷ l) k = rw (verdict-same k t, records-same e l _)
 
-  diags-same : (s e : ℕ) {l : List Token} → All (SameOwner w x) l → (i : ℕ) (k : List Nested) → nested-diags w s e l i k ≡ nested-diags x s e l i k
+  diags-same : (s e : ℕ) {l : List Token} → All (SameOwner w x) l → (i : ℕ) (k : List Nested)
+      → nested-diags w s e l i k ≡ nested-diags x s e l i k
   unfolding nested-diags records
   diags-same s e nil i k = refl
   diags-same s e (cons {x = t} o a) i k = rw (o, verdict-same k t, diags-same s e a (suc i) _)
@@ -94,7 +98,8 @@ module _ (w x : List Statement) (d : declared w ≡ declared x) where
   unfolding check-label
   label-same s o = rw o
 
-  give-same-by : (k : Kind) (s : Statement) → s .kind ≡ k → All (SameOwner w x) (bearer s) → All (SameOwner w x) (symbols s) → (v : State) → give-by k w v s ≡ give-by k x v s
+  give-same-by : (k : Kind) (s : Statement) → s .kind ≡ k → All (SameOwner w x) (bearer s)
+      → All (SameOwner w x) (symbols s) → (v : State) → give-by k w v s ≡ give-by k x v s
   unfolding give-c give-v give-d give-f give-e give-assertion check-outer
   give-same-by $c s e l m v = rw (each-same (outer-token w (s .at)) (outer-token x (s .at)) (outer-same (s .at)) (rw e at m) 0)
   give-same-by $v s e l m v =
@@ -179,7 +184,8 @@ module _ {w x : List Statement} {p q : ℕ} (h : Three w x p q) where
       )
 
 -- what holds of the names of some tokens holds of each
-named-all : (Q : List ℕ → Type 0) (l : List Token) → ((n : List ℕ) → any (named n) l ≡ true → Q n) → All (λ t. Q (t .bytes)) l
+named-all : (Q : List ℕ → Type 0) (l : List Token) → ((n : List ℕ) → any (named n) l ≡ true → Q n)
+    → All (λ t. Q (t .bytes)) l
 unfolding any
 named-all Q [] f = nil
 named-all Q (t ∷ l) f =
@@ -190,7 +196,8 @@ refuted : {a b : Bool} → (a ≡ true → b ≡ false) → b ≡ true → a ≡
 refuted {a} {b} f e = split a (λ k. let z : b ≡ false = f k in cc) (λ k. k)
 
 -- ---- W4: the premise of demand 3 suffices
-both : {w x l : List Statement} → declared w ≡ declared x → All (λ s. All (SameOwner w x) (bearer s)) l → All (λ s. All (SameOwner w x) (symbols s)) l → All (Agree w x) l
+both : {w x l : List Statement} → declared w ≡ declared x → All (λ s. All (SameOwner w x) (bearer s)) l
+    → All (λ s. All (SameOwner w x) (symbols s)) l → All (Agree w x) l
 both g nil nil = nil
 both g (cons a b) (cons c d) = cons (record { globals = g; label-owner = a; symbol-owners = c }) (both g b d)
 
