@@ -12,8 +12,9 @@ use borrow.Author.Tests.{eqb-true, eq-eqb, ltb-true, ltb-false, lt-ltb, le-ltb}
 use Rattle.paper.specs.Base.{choose, and, or, not, any, all}
 use Rattle.paper.specs.Frames.{Pair, pair, same-pair, new-pair, new-pairs}
 use Rattle.paper.proofs.Tests.{split, clash, eqb-ne}
+use Rattle.paper.proofs.Names.{any-append}
 use Rattle.disjoint.specs.Found.{both, meets, sum, one, rising, partners}
-use Rattle.disjoint.proofs.New.{any-append, both-ways, same-cases, same-straight, same-crossed, any-same, any-again}
+use Rattle.disjoint.proofs.New.{both-ways, same-cases, same-straight, same-crossed, any-same, any-again}
 
 -- ---- sums
 pub sum-same : (f g : ℕ → ℕ) (n : ℕ) → ((i : ℕ) → i < n → f i ≡ g i) → sum f n ≡ sum g n

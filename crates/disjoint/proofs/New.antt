@@ -10,13 +10,8 @@ use Rattle.paper.specs.Base.{choose, and, or, any, keep, gather}
 use Rattle.paper.specs.Frames.{Pair, pair, pairs-in, same-pair, new-pair, new-pairs}
 use Rattle.paper.proofs.Tests.{split, clash}
 use Rattle.paper.proofs.Lists.{keep-append}
+use Rattle.paper.proofs.Names.{any-append}
 use Rattle.disjoint.specs.Found.{both, meets}
-
--- ---- any over append
-pub any-append : {A : Type 0} (p : A → Bool) (l m : List A) → any p (l ++ m) ≡ or (any p l) (any p m)
-unfolding any
-any-append p [] m = refl
-any-append p (x ∷ l) m = split (p x) (λ e. rw e) (λ e. rw e (any-append p l m))
 
 -- ---- the same pair, in either orientation
 or-right : (a b : Bool) → b ≡ true → or a b ≡ true

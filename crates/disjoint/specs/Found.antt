@@ -3,7 +3,7 @@
 use mathlib.Core.Bool.{Bool, true, false}
 use mathlib.Core.List.{List, [], _∷_, _++_, map}
 use Prim.Native.Nat.{ℕ, zero, suc, _+_}
-use lib.Dec.{ltb}
+use lib.Dec.{eqb, ltb}
 use Rattle.paper.specs.Base.{choose, and, any, gather}
 use Rattle.paper.specs.Frames.{index, Pair, pair, pairs-in, same-pair}
 
@@ -21,6 +21,10 @@ both m p = and (ltb (p .left) m) (ltb (p .right) m)
 -- whether a pair is among some pairs, in either orientation
 unfoldable pub meets : List Pair → ℕ → ℕ → Bool
 meets l x y = any (same-pair (pair x y)) l
+
+-- whether a number is among some
+unfoldable pub has : ℕ → List ℕ → Bool
+has i l = any (eqb i) l
 
 -- f 0 + f 1 + ..., n of them
 unfoldable pub sum : (ℕ → ℕ) → ℕ → ℕ

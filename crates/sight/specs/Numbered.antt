@@ -20,7 +20,7 @@ pub record Numbered (w : List ℕ) (n : ℕ) (l : List Statement) (vs : List (Li
   pub few : length vs ≤ length (atoms l)
   pub occurs : (k : ℕ) → k < length vs → member (getD vs k []) (atoms l) ≡ true
   pub variable : (k : ℕ) → k < length vs → constant-name l (getD vs k []) ≡ false
-  pub distinct : (j k : ℕ) → j < k → k < length vs → getD vs j [] ≡ getD vs k [] → ⊥
+  pub place : (k : ℕ) → k < length vs → index vs (getD vs k []) ≡ k
   pub bucket : (k : ℕ) → k < length vs → word w (bucket-cell n k) ≡ atom-of l (getD vs k [])
   pub number : (a : ℕ) → a < length (atoms l) → word w (symbol-cell n a 5) ≡ number-word l vs (name-of l a)
 
