@@ -1,3 +1,4 @@
 pub mod Laid
 pub mod Wrote
 pub mod Raised
+pub mod Records
