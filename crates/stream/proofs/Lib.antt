@@ -2,3 +2,4 @@ pub mod Laid
 pub mod Wrote
 pub mod Raised
 pub mod Records
+pub mod Bit
