@@ -26,6 +26,12 @@ raised-last (b ∷ []) (suc k) e = absurd (omega arith)
 raised-last (b ∷ c ∷ l) zero e = absurd (omega arith)
 raised-last (b ∷ c ∷ l) (suc k) e = ap (λ r. b ∷ r) (raised-last (c ∷ l) k (omega arith))
 
+pub length-raised : (l : List ℕ) → length (raised l) ≡ length l
+unfolding raised
+length-raised [] = refl
+length-raised (b ∷ []) = refl
+length-raised (b ∷ c ∷ l) = ap suc (length-raised (c ∷ l))
+
 low : (b : ℕ) → math-byte b ≡ true → b < 128
 unfolding math-byte printable
 low b h =
