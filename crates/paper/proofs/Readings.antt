@@ -1,5 +1,5 @@
--- The readings of document 01 where its words can be read in two ways (docs/DECISIONS.md): a third table, with the smallest
--- text on which the readings differ. Those on `$f` that failed, on kinds 1, 7, 12 and 13, and on look-up stand in the other tables.
+-- A third table: the places of document 01 that can be read in two ways, each with the smallest text that tells them
+-- apart. Failed `$f`, kinds 1, 7, 12 and 13, 4,096 variables and look-up stand in the other tables.
 use mathlib.Core.Path.{_≡_, refl}
 use mathlib.Core.List.{List, [], _∷_, map}
 use Rattle.paper.specs.Base.{codes}

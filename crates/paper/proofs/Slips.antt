@@ -1,4 +1,4 @@
--- Slips to catch, where Rust and book part, and the kinds of diagnostics that the starred texts do not show: a second table.
+-- A second table: slips to catch, where Rust and book part, and the diagnostics that the starred texts do not show.
 -- Every buffer is just long enough, but where a refusal is shown.
 use mathlib.Core.Path.{_≡_, refl}
 use mathlib.Core.List.{List, [], _∷_, map}
