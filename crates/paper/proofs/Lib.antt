@@ -9,3 +9,5 @@ pub mod Slips
 pub mod Edges
 pub mod Lookups
 pub mod Readings
+pub mod All
+pub mod Sums

@@ -13,7 +13,7 @@ use Rattle.paper.specs.Base.{choose}
 use Rattle.paper.specs.Statements.{Statement, Item, opens, closes, states, top, tail, onto, closers, ended, with-end, ends}
 use Rattle.paper.proofs.Tests.{split}
 use Rattle.theorems.specs.Groups.{first, closer}
-use Rattle.theorems.proofs.All.{All, nil, cons}
+use Rattle.paper.proofs.All.{All, nil, cons}
 use Rattle.theorems.proofs.Reader.{Level, flat, opened, shut-one, stated, item-at, ItemAt}
 
 -- ---- E1
@@ -126,8 +126,8 @@ owned [] p q e = let c : _≡_ {A = ℕ} 0 1 = cc in absurd (omega arith)
 owned (opens o ∷ i) p q e =
     split (eqb o p)
     (λ k.
-      let a : o ≡ p = eqb-true o p k in
-      rw a (owned-by (closers i []) i p q refl (rw k at e)))
+    let a : o ≡ p = eqb-true o p k in
+    rw a (owned-by (closers i []) i p q refl (rw k at e)))
     (λ k. owned-later (opens o) (owned i p q (rw k at e)))
 owned (closes o ∷ i) p q e = owned-later (closes o) (owned i p q e)
 owned (states s ∷ i) p q e = owned-later (states s) (owned i p q e)
