@@ -4,3 +4,4 @@ pub mod Ends
 pub mod Counts
 pub mod Read
 pub mod Sense
+pub mod States

@@ -4,3 +4,4 @@ pub mod Names
 pub mod Tables
 pub mod Keys
 pub mod Options
+pub mod Alls

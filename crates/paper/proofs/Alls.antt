@@ -1,0 +1,110 @@
+-- What holds of every member of a list, and of every two members in their order; what searches find of such lists.
+-- For every crate; nothing here is about Metamath.
+use mathlib.Core.Path.{_≡_, refl, sym, _∙_}
+use mathlib.Core.Bool.{Bool, true, false}
+use mathlib.Core.List.{List, [], _∷_, _++_}
+use mathlib.Core.Option.{Option, none, some}
+use Rattle.paper.specs.Base.{choose, keep, latest}
+use Rattle.paper.proofs.Tests.{split, by-option, clash}
+use Rattle.paper.proofs.Options.{none-some, some-same}
+
+pub data All {A : Type 0} (P : A → Type 0) : List A → Type 0 where
+  all-none : All P []
+  all-more : {x : A} {l : List A} → P x → All P l → All P (x ∷ l)
+
+-- of an earlier member and a later one
+pub data Two {A : Type 0} (R : A → A → Type 0) : List A → Type 0 where
+  two-none : Two R []
+  two-more : {x : A} {l : List A} → All (R x) l → Two R l → Two R (x ∷ l)
+
+-- ---- every member
+pub all-map : {A : Type 0} {P Q : A → Type 0} {l : List A} → ((x : A) → P x → Q x) → All P l → All Q l
+all-map f all-none = all-none
+all-map f (all-more {x = x} p r) = all-more (f x p) (all-map f r)
+
+pub all-both : {A : Type 0} {P Q : A → Type 0} {l : List A} → All P l → All Q l → All (λ x. P x × Q x) l
+all-both all-none all-none = all-none
+all-both (all-more p r) (all-more q s) = all-more (p, q) (all-both r s)
+
+pub all-append : {A : Type 0} {P : A → Type 0} {l m : List A} → All P l → All P m → All P (l ++ m)
+all-append all-none y = y
+all-append (all-more p r) y = all-more p (all-append r y)
+
+pub all-of : {A : Type 0} {P : A → Type 0} (l : List A) → ((x : A) → P x) → All P l
+all-of [] f = all-none
+all-of (x ∷ l) f = all-more (f x) (all-of l f)
+
+-- of those that pass, and that they pass
+pub all-keep : {A : Type 0} {P : A → Type 0} (q : A → Bool) {l : List A} → All P l → All P (keep q l)
+unfolding keep
+all-keep q all-none = all-none
+all-keep q (all-more {x = x} p r) = split (q x) (λ e. rw e (all-more p (all-keep q r))) (λ e. rw e (all-keep q r))
+
+pub all-kept : {A : Type 0} (q : A → Bool) (l : List A) → All (λ x. q x ≡ true) (keep q l)
+unfolding keep
+all-kept q [] = all-none
+all-kept q (x ∷ l) = split (q x) (λ e. rw e (all-more e (all-kept q l))) (λ e. rw e (all-kept q l))
+
+-- ---- two members
+pub two-map : {A : Type 0} {R S : A → A → Type 0} {l : List A} → ((x y : A) → R x y → S x y) → Two R l → Two S l
+two-map f two-none = two-none
+two-map f (two-more {x = x} p r) = two-more (all-map (f x) p) (two-map f r)
+
+pub two-append :
+    {A : Type 0} {R : A → A → Type 0} {l m : List A} → Two R l → Two R m → All (λ x. All (R x) m) l → Two R (l ++ m)
+two-append two-none y z = y
+two-append (two-more p r) y (all-more a z) = two-more (all-append p a) (two-append r y z)
+
+pub two-keep : {A : Type 0} {R : A → A → Type 0} (q : A → Bool) {l : List A} → Two R l → Two R (keep q l)
+unfolding keep
+two-keep q two-none = two-none
+two-keep q (two-more {x = x} p r) =
+    split (q x) (λ e. rw e (two-more (all-keep q p) (two-keep q r))) (λ e. rw e (two-keep q r))
+
+-- ---- the last that passes
+abbrev pub passing : {A : Type 0} → (A → Bool) → Option A → Option A
+passing q none = none
+passing q (some x) = choose (q x) (some x) none
+
+pub latest-all :
+    {A : Type 0} {P : A → Type 0} (p : A → Bool) {l : List A} {y : A}
+    → All P l → latest p l ≡ some y → P y × (p y ≡ true)
+unfolding latest
+latest-all p all-none e = absurd (none-some e)
+latest-all {P = P} p {y = y} (all-more {x = x} {l = l} h r) e =
+    by-option (latest p l)
+    (λ z q. let i : z ≡ y = some-same (rw q at e) in rw i at (latest-all p r q))
+    (λ q. split (p x)
+    (λ f. let i : x ≡ y = some-same (rw (q, f) at e) in (rw i at h, rw i at f))
+    (λ f. absurd (none-some (rw (q, f) at e))))
+
+-- none passes
+pub latest-none : {A : Type 0} (p : A → Bool) (l : List A) → latest p l ≡ none → All (λ x. p x ≡ false) l
+unfolding latest
+latest-none p [] e = all-none
+latest-none p (x ∷ l) e =
+    by-option (latest p l)
+    (λ z q. absurd (none-some (sym (rw q at e))))
+    (λ q. split (p x)
+    (λ f. absurd (none-some (sym (rw (q, f) at e))))
+    (λ f. all-more f (latest-none p l q)))
+
+-- where of two that pass the earlier one is not kept, the last kept one that passes is the last that passes, if it is kept
+pub latest-keep :
+    {A : Type 0} (p q : A → Bool) {l : List A}
+    → Two (λ x y. p x ≡ true → p y ≡ true → q x ≡ false) l → latest p (keep q l) ≡ passing q (latest p l)
+unfolding latest keep
+latest-keep p q two-none = refl
+latest-keep p q (two-more {x = x} {l = l} h r) =
+    let i = latest-keep p q r in
+    by-option (latest p l)
+    (λ y e. split (q y)
+    (λ f. split (q x) (λ g. rw (g, i, e, f)) (λ g. rw (g, i, e, f)))
+    (λ f. split (q x)
+    (λ g. split (p x)
+    (λ k. let j = latest-all p h e in absurd (clash (sym g ∙ j .0 k (j .1))))
+    (λ k. rw (g, i, e, f, k)))
+    (λ g. rw (g, i, e, f))))
+    (λ e. split (q x)
+    (λ g. split (p x) (λ k. rw (g, i, e, k, g)) (λ k. rw (g, i, e, k)))
+    (λ g. split (p x) (λ k. rw (g, i, e, k, g)) (λ k. rw (g, i, e, k))))
