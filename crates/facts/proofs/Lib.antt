@@ -5,3 +5,6 @@ pub mod Counts
 pub mod Read
 pub mod Sense
 pub mod States
+pub mod Gives
+pub mod Recorded
+pub mod Single

@@ -26,9 +26,23 @@ pub all-both : {A : Type 0} {P Q : A → Type 0} {l : List A} → All P l → Al
 all-both all-none all-none = all-none
 all-both (all-more p r) (all-more q s) = all-more (p, q) (all-both r s)
 
+pub all-first : {A : Type 0} {P : A → Type 0} {x : A} {l : List A} → All P (x ∷ l) → P x
+all-first (all-more p r) = p
+
+pub all-rest : {A : Type 0} {P : A → Type 0} {x : A} {l : List A} → All P (x ∷ l) → All P l
+all-rest (all-more p r) = r
+
 pub all-append : {A : Type 0} {P : A → Type 0} {l m : List A} → All P l → All P m → All P (l ++ m)
 all-append all-none y = y
 all-append (all-more p r) y = all-more p (all-append r y)
+
+pub all-left : {A : Type 0} {P : A → Type 0} (l m : List A) → All P (l ++ m) → All P l
+all-left [] m h = all-none
+all-left (x ∷ l) m h = all-more (all-first h) (all-left l m (all-rest h))
+
+pub all-right : {A : Type 0} {P : A → Type 0} (l m : List A) → All P (l ++ m) → All P m
+all-right [] m h = h
+all-right (x ∷ l) m h = all-right l m (all-rest h)
 
 pub all-of : {A : Type 0} {P : A → Type 0} (l : List A) → ((x : A) → P x) → All P l
 all-of [] f = all-none
@@ -45,6 +59,15 @@ unfolding keep
 all-kept q [] = all-none
 all-kept q (x ∷ l) = split (q x) (λ e. rw e (all-more e (all-kept q l))) (λ e. rw e (all-kept q l))
 
+-- of a member that is kept, if it is
+pub all-unkeep : {A : Type 0} {P : A → Type 0} (q : A → Bool) (l : List A) → All P (keep q l) → All (λ x. q x ≡ true → P x) l
+unfolding keep
+all-unkeep q [] h = all-none
+all-unkeep {P = P} q (x ∷ l) h =
+    split (q x)
+    (λ e. let r : All P (x ∷ keep q l) = rw e at h in all-more (λ f. all-first r) (all-unkeep q l (all-rest r)))
+    (λ e. all-more (λ f. absurd (clash (sym f ∙ e))) (all-unkeep q l (rw e at h)))
+
 -- ---- two members
 pub two-map : {A : Type 0} {R S : A → A → Type 0} {l : List A} → ((x y : A) → R x y → S x y) → Two R l → Two S l
 two-map f two-none = two-none
@@ -54,6 +77,28 @@ pub two-append :
     {A : Type 0} {R : A → A → Type 0} {l m : List A} → Two R l → Two R m → All (λ x. All (R x) m) l → Two R (l ++ m)
 two-append two-none y z = y
 two-append (two-more p r) y (all-more a z) = two-more (all-append p a) (two-append r y z)
+
+-- what may follow a list: it holds of two of its own, and of one of the list and one of its own
+pub record Joins {A : Type 0} (R : A → A → Type 0) (l m : List A) : Type 0 where
+  pub two : Two R m
+  pub across : All (λ x. All (R x) m) l
+
+pub joins-none : {A : Type 0} (R : A → A → Type 0) (l : List A) → Joins R l []
+joins-none R l = record { two = two-none; across = all-of l (λ x. all-none) }
+
+pub joins-one : {A : Type 0} {R : A → A → Type 0} {l : List A} (y : A) → All (λ x. R x y) l → Joins R l (y ∷ [])
+joins-one y h = record { two = two-more all-none two-none; across = all-map (λ x p. all-more p all-none) h }
+
+pub joins-then :
+    {A : Type 0} {R : A → A → Type 0} {l m k : List A} → Joins R l m → Joins R (l ++ m) k → Joins R l (m ++ k)
+joins-then {l = l} {m = m} a b =
+    record {
+      two = two-append (a .two) (b .two) (all-right l m (b .across));
+      across = all-map (λ x p. all-append (p .0) (p .1)) (all-both (a .across) (all-left l m (b .across)));
+    }
+
+pub two-joins : {A : Type 0} {R : A → A → Type 0} {l m : List A} → Two R l → Joins R l m → Two R (l ++ m)
+two-joins h j = two-append h (j .two) (j .across)
 
 pub two-keep : {A : Type 0} {R : A → A → Type 0} (q : A → Bool) {l : List A} → Two R l → Two R (keep q l)
 unfolding keep
