@@ -8,3 +8,4 @@ pub mod States
 pub mod Gives
 pub mod Recorded
 pub mod Single
+pub mod Order

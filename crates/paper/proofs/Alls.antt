@@ -106,6 +106,27 @@ two-keep q two-none = two-none
 two-keep q (two-more {x = x} p r) =
     split (q x) (λ e. rw e (two-more (all-keep q p) (two-keep q r))) (λ e. rw e (two-keep q r))
 
+-- where the earlier one is kept
+pub two-kept :
+    {A : Type 0} {R : A → A → Type 0} (q : A → Bool) {l : List A} → Two (λ x y. q x ≡ true → R x y) l → Two R (keep q l)
+unfolding keep
+two-kept q two-none = two-none
+two-kept q (two-more {x = x} p r) =
+    split (q x)
+    (λ e. rw e (two-more (all-keep q (all-map (λ y f. f e) p)) (two-kept q r)))
+    (λ e. rw e (two-kept q r))
+
+-- ---- all are kept, or none
+pub keep-all : {A : Type 0} (q : A → Bool) {l : List A} → All (λ x. q x ≡ true) l → keep q l ≡ l
+unfolding keep
+keep-all q all-none = refl
+keep-all q (all-more e r) = rw (e, keep-all q r)
+
+pub keep-none : {A : Type 0} (q : A → Bool) {l : List A} → All (λ x. q x ≡ false) l → keep q l ≡ []
+unfolding keep
+keep-none q all-none = refl
+keep-none q (all-more e r) = rw (e, keep-none q r)
+
 -- ---- the last that passes
 abbrev pub passing : {A : Type 0} → (A → Bool) → Option A → Option A
 passing q none = none
