@@ -5,3 +5,9 @@ pub mod Tables
 pub mod Keys
 pub mod Options
 pub mod Alls
+pub mod Table
+pub mod Bench
+pub mod Slips
+pub mod Edges
+pub mod Lookups
+pub mod Readings
