@@ -1,1 +1,2 @@
 pub mod Static
+pub mod Rows
