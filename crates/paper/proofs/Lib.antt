@@ -3,6 +3,8 @@ pub mod Lists
 pub mod Names
 pub mod Tables
 pub mod Keys
+pub mod Options
+pub mod Alls
 pub mod Table
 pub mod Bench
 pub mod Slips
