@@ -5,3 +5,5 @@ pub mod Records
 pub mod Bit
 pub mod Rows
 pub mod Setting
+pub mod Compare
+pub mod Framing
