@@ -7,3 +7,4 @@ pub mod Rows
 pub mod Setting
 pub mod Compare
 pub mod Framing
+pub mod Search

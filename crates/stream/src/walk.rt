@@ -123,13 +123,16 @@ pub fn same(a: &[u8], b: &[u8]) -> bool
 fn keep_first(found: Found, own: &[u8], label: &[u8], at: u64) -> Found
     ensures { λ r. ⌜ r ≡ kept found (sameb (now (own .entry)) (now (label .entry))) at ⌝ }
 {
-    let Found::Missing = found else {
-        return found;
-    };
-    if same(own, label) {
-        return Found::At(at);
+    match found {
+        Found::At(p) => Found::At(p),
+        Found::Malformed(p) => Found::Malformed(p),
+        Found::Missing => {
+            if same(own, label) {
+                return Found::At(at);
+            }
+            Found::Missing
+        }
     }
-    Found::Missing
 }
 
 /// The first record that bears a label, once all records are seen to be well framed.
