@@ -9,3 +9,4 @@ pub mod Slips
 pub mod Edges
 pub mod Lookups
 pub mod Readings
+pub mod Gather
