@@ -30,13 +30,13 @@ slice-read-atom : tie.Need-slice-read-atom Inv-loop μ-loop
 slice-read-atom c = let b = forget-within (c .before .before .before .loop .inv) (c .before .before .before .before .before .pre) (search needs) in omega arith
 
 cast-atom : tie.Need-cast-atom Inv-loop μ-loop
-cast-atom c = search needs
+cast-atom c = omega (arith, c .slice-known2 .given (c .before .bucket .result))
 
 symbol-requires : tie.Need-symbol-requires Inv-loop μ-loop
 symbol-requires c κs = let b = forget-within (c .before .before .before .loop .inv) (c .before .before .before .before .before .pre) (search needs) in omega (arith, word-at (c .before .before .before .loop .work) (c .before .bucket .ensures))
 
 mul-work : tie.Need-mul-work Inv-loop μ-loop
-mul-work c = search needs
+mul-work c = let b = forget-within (c .before .before .before .before .loop .inv) (c .before .before .before .before .before .before .pre) (search needs) in omega (arith, word-at (c .before .before .before .before .loop .work) (c .before .before .bucket .ensures))
 
 slice-write-work : tie.Need-slice-write-work Inv-loop μ-loop
 slice-write-work c = let b = forget-within (c .before .before .before .before .loop .inv) (c .before .before .before .before .before .before .pre) (search needs) in omega (arith, word-at (c .before .before .before .before .loop .work) (c .before .before .bucket .ensures))

@@ -37,7 +37,7 @@ slice-read-first : tie.Need-slice-read-first Inv-loop μ-loop
 slice-read-first c = let b = scan-bounds (c .before .before .before .pre) in omega arith
 
 cast-first : tie.Need-cast-first Inv-loop μ-loop
-cast-first c = search needs
+cast-first c = omega (arith, c .slice-known2 .given (c .before .statement .result))
 
 statement-requires-2 : tie.Need-statement-requires-2 Inv-loop μ-loop
 statement-requires-2 c κs = let b = scan-bounds (c .before .before .before .pre) in omega arith
@@ -49,7 +49,7 @@ slice-read-count : tie.Need-slice-read-count Inv-loop μ-loop
 slice-read-count c = let b = scan-bounds (c .before .before .before .before .before .pre) in omega arith
 
 cast-count : tie.Need-cast-count Inv-loop μ-loop
-cast-count c = search needs
+cast-count c = omega (arith, c .slice-known3 .given (c .before .statement2 .result))
 
 loop-holds : tie.Need-loop-holds Inv-loop μ-loop
 loop-holds c = scan-start _ _ _ _ _
@@ -67,7 +67,7 @@ slice-read-atom : tie.Need-slice-read-atom Inv-loop μ-loop
 slice-read-atom c = let b = inside (c .before .before) in omega arith
 
 cast-atom : tie.Need-cast-atom Inv-loop μ-loop
-cast-atom c = search needs
+cast-atom c = omega (arith, c .slice-known4 .given (c .before .math .result))
 
 see-requires : tie.Need-see-requires Inv-loop μ-loop
 see-requires c κs = let b = inside (c .before .before .before) in let d = scan-bounds (c .before .before .before .before .before .before .before .before .before .before .pre) in omega (arith, word-at (c .before .before .before .before .loop .work) (c .before .before .math .ensures))

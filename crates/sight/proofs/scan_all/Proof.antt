@@ -31,7 +31,7 @@ slice-read-row : tie.Need-slice-read-row Inv-loop μ-loop
 slice-read-row c = let b = all-bounds (c .before .before .before .loop .inv) (c .before .before .before .before .before .pre) (search needs) in omega (arith, c .before .before .before .before .before .pre .column)
 
 cast-row : tie.Need-cast-row Inv-loop μ-loop
-cast-row c = search needs
+cast-row c = omega (arith, c .slice-known2 .given (c .before .statement .result))
 
 scan-requires : tie.Need-scan-requires Inv-loop μ-loop
 scan-requires c κs = rw (word-at (c .before .before .before .before .loop .work) (c .before .before .statement .ensures)) (all-can (c .before .before .before .before .loop .inv) (c .before .before .before .before .before .before .pre) (search needs))
