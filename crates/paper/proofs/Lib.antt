@@ -13,3 +13,4 @@ pub mod Lookups
 pub mod Readings
 pub mod All
 pub mod Sums
+pub mod Gather
