@@ -44,9 +44,9 @@ module _ {A : Type 0} (act : ℕ → A → Bool) (p : A → Bool) where
   none-later f (x ∷ l) o q h e =
       split (act o x)
       (λ a.
-          let z : orElse (latest p (keep (act o) l)) (choose (p x) (some x) none) ≡ none = rw a at e in
-          let r : latest p (keep (act q) l) ≡ none = none-later f l o q h (left-none (latest p (keep (act o) l)) (choose (p x) (some x) none) z) in
-          split (act q x) (λ b. rw (b, r) (right-none (latest p (keep (act o) l)) (choose (p x) (some x) none) z)) (λ b. rw b r))
+      let z : orElse (latest p (keep (act o) l)) (choose (p x) (some x) none) ≡ none = rw a at e in
+      let r : latest p (keep (act q) l) ≡ none = none-later f l o q h (left-none (latest p (keep (act o) l)) (choose (p x) (some x) none) z) in
+      split (act q x) (λ b. rw (b, r) (right-none (latest p (keep (act o) l)) (choose (p x) (some x) none) z)) (λ b. rw b r))
       (λ a. rw (f x o q h a) (none-later f l o q h (rw a at e)))
 
   pub latest-new : (l : List A) (x : A) (q : ℕ) → p x ≡ true → latest p (keep (act q) l) ≡ none
@@ -78,17 +78,21 @@ module _ (w : List ℕ) (n a o e : ℕ) (r : Room w n) (h : a < n) where
   nested-same : (p : ℕ) → nested-slot (with-nested w n a o e) n a p ≡ choose (ltb p e) (At o) Nothing
   unfolding nested-slot with-nested
   nested-same p =
-      rw (word-same (set w (symbol-cell n a 2) o) (symbol-cell n a 3) e (omega (arith, length-set w (symbol-cell n a 2) o, r .room)),
-      word-other (set w (symbol-cell n a 2) o) (symbol-cell n a 3) (symbol-cell n a 2) e (λ d. omega (arith, d)),
-      word-same w (symbol-cell n a 2) o (omega (arith, r .room)))
+      rw (
+        word-same (set w (symbol-cell n a 2) o) (symbol-cell n a 3) e (omega (arith, length-set w (symbol-cell n a 2) o, r .room)),
+        word-other (set w (symbol-cell n a 2) o) (symbol-cell n a 3) (symbol-cell n a 2) e (λ d. omega (arith, d)),
+        word-same w (symbol-cell n a 2) o (omega (arith, r .room)),
+      )
 
   nested-other : (b p : ℕ) → b ≢ a → nested-slot (with-nested w n a o e) n b p ≡ nested-slot w n b p
   unfolding nested-slot with-nested
   nested-other b p d =
-      rw (word-other (set w (symbol-cell n a 2) o) (symbol-cell n a 3) (symbol-cell n b 3) e (λ q. omega (arith, q, d)),
-      word-other w (symbol-cell n a 2) (symbol-cell n b 3) o (λ q. omega (arith, q, d)),
-      word-other (set w (symbol-cell n a 2) o) (symbol-cell n a 3) (symbol-cell n b 2) e (λ q. omega (arith, q, d)),
-      word-other w (symbol-cell n a 2) (symbol-cell n b 2) o (λ q. omega (arith, q, d)))
+      rw (
+        word-other (set w (symbol-cell n a 2) o) (symbol-cell n a 3) (symbol-cell n b 3) e (λ q. omega (arith, q, d)),
+        word-other w (symbol-cell n a 2) (symbol-cell n b 3) o (λ q. omega (arith, q, d)),
+        word-other (set w (symbol-cell n a 2) o) (symbol-cell n a 3) (symbol-cell n b 2) e (λ q. omega (arith, q, d)),
+        word-other w (symbol-cell n a 2) (symbol-cell n b 2) o (λ q. omega (arith, q, d)),
+      )
 
 -- one recorded where none of its name is active
 pub nests-put : {w : List ℕ} {n : ℕ} {l : List Statement} {st : List Nested} {o a : ℕ} {x : List ℕ} (p e : ℕ) → Room w n → length (atoms l) ≤ n
@@ -101,20 +105,20 @@ nests-put {w} {n} {l} {st} {o} {a} {x} p e r f d y k none-here =
       looks = λ b q g m.
           split (eqb b a)
           (λ s.
-              let i : b ≡ a = eqb-true b a s in
-              let v : name-of l b ≡ x = ap (name-of l) i ∙ y .name in
-              rw (i, y .name)
-              (nested-same w n a p e r (omega (arith, y .below)) q
-              ∙ sym (ap nested-at
-              (latest-new active-nested (nested-name x) st z q (eq-same x x refl)
-              (none-later active-nested (nested-name x) nested-ends st o q m none-here))
-              ∙ split (ltb q e) (λ t. rw t) (λ t. rw t))))
+          let i : b ≡ a = eqb-true b a s in
+          let v : name-of l b ≡ x = ap (name-of l) i ∙ y .name in
+          rw (i, y .name)
+          (nested-same w n a p e r (omega (arith, y .below)) q
+          ∙ sym (ap nested-at
+          (latest-new active-nested (nested-name x) st z q (eq-same x x refl)
+          (none-later active-nested (nested-name x) nested-ends st o q m none-here))
+          ∙ split (ltb q e) (λ t. rw t) (λ t. rw t))))
           (λ s.
-              nested-other w n a p e r (omega (arith, y .below)) b q (eqb-ne s)
-              ∙ k .looks b q g m
-              ∙ sym (ap nested-at
-              (latest-old active-nested (nested-name (name-of l b)) st z q
-              (ne-same x (name-of l b) (λ i. eqb-ne s (d .apart b a g (y .below) (sym i ∙ sym (y .name))))))));
+          nested-other w n a p e r (omega (arith, y .below)) b q (eqb-ne s)
+          ∙ k .looks b q g m
+          ∙ sym (ap nested-at
+          (latest-old active-nested (nested-name (name-of l b)) st z q
+          (ne-same x (name-of l b) (λ i. eqb-ne s (d .apart b a g (y .below) (sym i ∙ sym (y .name))))))));
     }
 
 pub nests-kept : {w v : List ℕ} {n a b c e : ℕ} {l : List Statement} {st : List Nested} {o : ℕ} → length (atoms l) ≤ n → (4 ≤ c) → Kept n a b c e w v
@@ -147,9 +151,13 @@ module _ (w : List ℕ) (n a k : ℕ) (r : Room w n) (h : a < n) where
   unfolding float-slot with-float
   float-same e p g d =
       let i : (k + 1) - 1 ≡ k = omega arith in
-      rw (word-same w (symbol-cell n a 4) (k + 1) (omega (arith, r .room)), ne-eqb (k + 1) 0 (omega arith), i,
-      word-other w (symbol-cell n a 4) (statement-cell k 7) (k + 1) (λ q. omega (arith, q)),
-      d)
+      rw (
+        word-same w (symbol-cell n a 4) (k + 1) (omega (arith, r .room)),
+        ne-eqb (k + 1) 0 (omega arith),
+        i,
+        word-other w (symbol-cell n a 4) (statement-cell k 7) (k + 1) (λ q. omega (arith, q)),
+        d,
+      )
 
   word-of-other : (b : ℕ) → b ≢ a → word (with-float w n a k) (symbol-cell n b 4) ≡ word w (symbol-cell n b 4)
   unfolding with-float
@@ -165,8 +173,8 @@ module _ (w : List ℕ) (n a k : ℕ) (r : Room w n) (h : a < n) where
       split (eqb (word w (symbol-cell n b 4)) 0)
       (λ z. rw (word-of-other b d, z))
       (λ z.
-          let m : word w (symbol-cell n b 4) ≢ 0 = eqb-ne z in
-          rw (word-of-other b d, z, kept-float .low (word w (symbol-cell n b 4) - 1) 7 (omega (arith, m)) (omega arith) (omega arith)))
+      let m : word w (symbol-cell n b 4) ≢ 0 = eqb-ne z in
+      rw (word-of-other b d, z, kept-float .low (word w (symbol-cell n b 4) - 1) 7 (omega (arith, m)) (omega arith) (omega arith)))
 
 float-ends : (l : List Statement) (k q : ℕ) → float-at l (choose (ltb q (stmt l k .end)) (At k) Nothing) ≡ choose (active-hyp q (float-hyp l k)) (some (float-hyp l k)) none
 unfolding float-hyp
@@ -191,17 +199,17 @@ floats-put {w} {n} {l} {h} {k} {o} {a} r f g end d y s none-here =
       looks = λ b q i m.
           split (eqb b a)
           (λ z.
-              let j : b ≡ a = eqb-true b a z in
-              rw (j, y .name)
-              (ap (float-at l) (float-same w n a k r (omega (arith, y .below)) (stmt l k .end) q g end)
-              ∙ float-ends l k q
-              ∙ sym (latest-new active-hyp (float-name x) h (float-hyp l k) q (float-is l k x refl)
-              (none-later active-hyp (float-name x) hyp-ends h o q m none-here))))
+          let j : b ≡ a = eqb-true b a z in
+          rw (j, y .name)
+          (ap (float-at l) (float-same w n a k r (omega (arith, y .below)) (stmt l k .end) q g end)
+          ∙ float-ends l k q
+          ∙ sym (latest-new active-hyp (float-name x) h (float-hyp l k) q (float-is l k x refl)
+          (none-later active-hyp (float-name x) hyp-ends h o q m none-here))))
           (λ z.
-              ap (float-at l) (float-other w n a k r (omega (arith, y .below)) b q (eqb-ne z) (omega (arith, s .rows b i)))
-              ∙ s .looks b q i m
-              ∙ sym (latest-old active-hyp (float-name (name-of l b)) h (float-hyp l k) q
-              (float-not l k (name-of l b) (λ j. eqb-ne z (d .apart b a i (y .below) (sym j ∙ sym (y .name)))))));
+          ap (float-at l) (float-other w n a k r (omega (arith, y .below)) b q (eqb-ne z) (omega (arith, s .rows b i)))
+          ∙ s .looks b q i m
+          ∙ sym (latest-old active-hyp (float-name (name-of l b)) h (float-hyp l k) q
+          (float-not l k (name-of l b) (λ j. eqb-ne z (d .apart b a i (y .below) (sym j ∙ sym (y .name)))))));
       rows = λ b i.
           split (eqb b a)
           (λ z. let j : b ≡ a = eqb-true b a z in rw j (omega (arith, word-of-same w n a k r (omega (arith, y .below)))))
@@ -227,8 +235,8 @@ floats-kept {w} {v} {n} {l = l} f g u same x s =
           split (eqb (word w (symbol-cell n b 4)) 0)
           (λ z. rw (j, z) (rw z at (s .looks b q i m)))
           (λ z.
-              let y : word w (symbol-cell n b 4) ≢ 0 = eqb-ne z in
-              rw (j, x .low (word w (symbol-cell n b 4) - 1) 7 (omega (arith, y, s .rows b i)) (omega arith) (omega arith)) (s .looks b q i m));
+          let y : word w (symbol-cell n b 4) ≢ 0 = eqb-ne z in
+          rw (j, x .low (word w (symbol-cell n b 4) - 1) 7 (omega (arith, y, s .rows b i)) (omega arith) (omega arith)) (s .looks b q i m));
       rows = λ b i. rw (same b (omega arith)) (s .rows b i);
     }
 
