@@ -3,3 +3,4 @@ pub mod Grammar
 pub mod Ends
 pub mod Counts
 pub mod Read
+pub mod Sense
