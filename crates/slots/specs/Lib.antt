@@ -1,2 +1,3 @@
 pub mod Kept
 pub mod Slots
+pub mod Marks
