@@ -2,3 +2,4 @@ pub mod Kept
 pub mod Slots
 pub mod Words
 pub mod Marks
+pub mod Stacks

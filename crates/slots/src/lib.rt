@@ -3,6 +3,7 @@
 pub mod cells;
 pub mod look;
 pub mod mark;
+pub mod stack;
 
 /// What a slot holds, or nothing.
 pub enum Slot {
