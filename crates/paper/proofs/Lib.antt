@@ -11,3 +11,6 @@ pub mod Slips
 pub mod Edges
 pub mod Lookups
 pub mod Readings
+pub mod All
+pub mod Sums
+pub mod Gather
