@@ -174,3 +174,52 @@ latest-keep p q (two-more {x = x} {l = l} h r) =
     (λ e. split (q x)
     (λ g. split (p x) (λ k. rw (g, i, e, k, g)) (λ k. rw (g, i, e, k)))
     (λ g. split (p x) (λ k. rw (g, i, e, k, g)) (λ k. rw (g, i, e, k))))
+
+-- ---- some member
+pub data Any {A : Type 0} (P : A → Type 0) : List A → Type 0 where
+  any-here : {x : A} {l : List A} → P x → Any P (x ∷ l)
+  any-later : {x : A} {l : List A} → Any P l → Any P (x ∷ l)
+
+pub any-map : {A : Type 0} {P Q : A → Type 0} {l : List A} → ((x : A) → P x → Q x) → Any P l → Any Q l
+any-map f (any-here {x = x} p) = any-here (f x p)
+any-map f (any-later r) = any-later (any-map f r)
+
+pub any-left : {A : Type 0} {P : A → Type 0} {l : List A} (m : List A) → Any P l → Any P (l ++ m)
+any-left m (any-here p) = any-here p
+any-left m (any-later r) = any-later (any-left m r)
+
+pub any-keep : {A : Type 0} {P : A → Type 0} (q : A → Bool) {l : List A} → Any (λ x. P x × (q x ≡ true)) l → Any P (keep q l)
+unfolding keep
+any-keep q (any-here p) = rw (p .1) (any-here (p .0))
+any-keep q (any-later {x = x} r) =
+    split (q x) (λ e. rw e (any-later (any-keep q r))) (λ e. rw e (any-keep q r))
+
+pub any-unkeep : {A : Type 0} {P : A → Type 0} (q : A → Bool) (l : List A) → Any P (keep q l) → Any P l
+unfolding keep
+any-unkeep q [] r = r
+any-unkeep {P = P} q (x ∷ l) r =
+    split (q x)
+    (λ e. first (rw e at r) (any-unkeep q l))
+    (λ e. any-later (any-unkeep q l (rw e at r)))
+  where
+    first : Any P (x ∷ keep q l) → (Any P (keep q l) → Any P l) → Any P (x ∷ l)
+    first (any-here p) f = any-here p
+    first (any-later t) f = any-later (f t)
+
+-- the last that passes is there, and is found if one passes
+pub latest-any :
+    {A : Type 0} {P : A → Type 0} (p : A → Bool) {l : List A} {y : A}
+    → All P l → latest p l ≡ some y → Any (λ x. (p x ≡ true) × P x) l
+unfolding latest
+latest-any p all-none e = absurd (none-some e)
+latest-any p (all-more {x = x} {l = l} h r) e =
+    by-option (latest p l)
+    (λ z q. any-later (latest-any p r q))
+    (λ q. split (p x) (λ f. any-here (f, h)) (λ f. absurd (none-some (rw (q, f) at e))))
+
+pub any-latest : {A : Type 0} (p : A → Bool) {l : List A} → Any (λ x. p x ≡ true) l → latest p l ≡ none → ⊥
+unfolding latest
+any-latest p (any-here {x = x} {l = l} h) e =
+    by-option (latest p l) (λ z q. none-some (sym (rw q at e))) (λ q. none-some (sym (rw (q, h) at e)))
+any-latest p (any-later {l = l} r) e =
+    by-option (latest p l) (λ z q. none-some (sym (rw q at e))) (λ q. any-latest p r q)
