@@ -66,6 +66,10 @@ variables-to w n row i = sum (λ j. variable-size (word w (symbol-cell n (atom-a
 abbrev pub essential-row : List ℕ → ℕ → ℕ
 essential-row w k = word w (statement-cell k 10)
 
+unfoldable pub stack-constants : List ℕ → List ℕ → ℕ → ℕ → List ℕ
+stack-constants t w n zero = []
+stack-constants t w n (suc k) = stack-constants t w n k ++ constants-of t w n (essential-row w k)
+
 unfoldable pub stack-size : List ℕ → ℕ → ℕ → ℕ
 stack-size w n k = sum (λ j. sizes-to w n (essential-row w j) (count-of w (essential-row w j))) k
 
@@ -108,6 +112,38 @@ pub record RowWords (t w : List ℕ) (n row : ℕ) : Type 0 where
   pub some : 1 ≤ word w (statement-cell row 6)
   pub names : (i : ℕ) → i < word w (statement-cell row 6) → NameWords t w n (atom-at w n row i)
   pub low : (i : ℕ) → i < word w (statement-cell row 6) → Low (name-bytes t w n (atom-at w n row i))
+
+-- the names of the first k variables
+pub record VarWords (t w : List ℕ) (n k : ℕ) : Type 0 where
+  pub room : 16 * n ≤ length w
+  pub small : n ≤ 16777217
+  pub few : k < n
+  pub names : (j : ℕ) → j < k → NameWords t w n (word w (bucket-cell n j))
+
+-- the first k rows of active `$e` have no math tokens at or after the c-th of the text
+abbrev pub Before : List ℕ → ℕ → ℕ → Type 0
+Before w k c =
+    (j : ℕ) → j < k → word w (statement-cell (essential-row w j) 5) + word w (statement-cell (essential-row w j) 6) ≤ c
+
+pub record StackWords (t w : List ℕ) (n es : ℕ) : Type 0 where
+  pub room : 16 * n ≤ length w
+  pub small : n ≤ 16777217
+  pub depth : 3 * es < n
+  pub rows : (k : ℕ) → k < es → RowWords t w n (essential-row w k)
+  pub rises : (k : ℕ) → k < es → Before w k (word w (statement-cell (essential-row w k) 5))
+
+-- for what reads words alone
+pub record SomeName (w : List ℕ) (n a : ℕ) : Type 0 where
+  pub t : List ℕ
+  pub words : NameWords t w n a
+
+pub record SomeRow (w : List ℕ) (n row : ℕ) : Type 0 where
+  pub t : List ℕ
+  pub words : RowWords t w n row
+
+pub record SomeStack (w : List ℕ) (n es : ℕ) : Type 0 where
+  pub t : List ℕ
+  pub words : StackWords t w n es
 
 -- every variable of the row has a number
 pub record RowNumbers (w : List ℕ) (n row : ℕ) : Type 0 where
