@@ -1,2 +1,5 @@
 pub mod Atoms
+<<<<<<< HEAD
 pub mod Kept
+=======
+>>>>>>> forms
