@@ -1,5 +1,2 @@
 pub mod Atoms
-<<<<<<< HEAD
 pub mod Kept
-=======
->>>>>>> forms
