@@ -19,7 +19,14 @@ pub fn name_part<'a>(text: &'a [u8], work: &[u32], n: usize, atom: usize) -> &'a
 }
 
 /// Stores the stub frame of the `$f` in a row.
-pub fn construct_stub_frame(text: &[u8], work: &[u32], n: usize, frames: &mut [u8], at: usize, row: usize) -> usize
+pub fn construct_stub_frame(
+    text: &[u8],
+    work: &[u32],
+    n: usize,
+    frames: &mut [u8],
+    at: usize,
+    row: usize,
+) -> usize
     requires { ⌜ CanStub (now text) (now work) n row × (at < 2 ^ 59) ⌝ }
     ensures { λ r. ⌜ Stubs (now (text .entry)) (now (work .entry)) n row (now (frames .entry)) (now (frames .exit)) at r ⌝ }
 {
@@ -29,5 +36,13 @@ pub fn construct_stub_frame(text: &[u8], work: &[u32], n: usize, frames: &mut [u
     let label = name_part(text, work, n, words::statement_word(work, row, area::LABEL));
     let typecode = name_part(text, work, n, words::math_word(work, n, first));
     let variable = name_part(text, work, n, words::math_word(work, n, first + 1));
-    stream::record::put_stub(frames, at, StatementOffset(start as u32), end as u32, label, typecode, variable)
+    stream::record::put_stub(
+        frames,
+        at,
+        StatementOffset(start as u32),
+        end as u32,
+        label,
+        typecode,
+        variable,
+    )
 }
