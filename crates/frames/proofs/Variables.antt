@@ -23,8 +23,8 @@ use Rattle.history.proofs.Active.{formulas-by-rows}
 
 -- ---- the tokens of a row
 scanned-sights :
-  (l : List Statement) (m : List Token) (vs : List (List ℕ))
-  → scanned l m vs ≡ sights (gather variable-in (map (static-symbol l) m)) vs
+    (l : List Statement) (m : List Token) (vs : List (List ℕ))
+    → scanned l m vs ≡ sights (gather variable-in (map (static-symbol l) m)) vs
 unfolding scanned sights gather
 scanned-sights l [] vs = refl
 scanned-sights l (t ∷ m) vs =
@@ -33,8 +33,8 @@ scanned-sights l (t ∷ m) vs =
     (λ e. rw e (scanned-sights l m (see vs (t .bytes))))
 
 pub scanned-static :
-  (l : List Statement) (s : Statement) (vs : List (List ℕ))
-  → scanned l (drop 1 (s .math)) vs ≡ sights (variables-of (static l s)) vs
+    (l : List Statement) (s : Statement) (vs : List (List ℕ))
+    → scanned l (drop 1 (s .math)) vs ≡ sights (variables-of (static l s)) vs
 unfolding static variables-of
 scanned-static l s vs = scanned-sights l (drop 1 (s .math)) vs
 
@@ -43,8 +43,8 @@ abbrev formula-at : List Statement → ℕ → Formula
 formula-at l r = static l (stmt l r)
 
 scanned-essentials :
-  (l : List Statement) (h : List ℕ) (vs : List (List ℕ))
-  → scanned-rows l 1 h vs ≡ sights (gather variables-of (map (formula-at l) h)) vs
+    (l : List Statement) (h : List ℕ) (vs : List (List ℕ))
+    → scanned-rows l 1 h vs ≡ sights (gather variables-of (map (formula-at l) h)) vs
 unfolding scanned-rows gather sights
 scanned-essentials l [] vs = refl
 scanned-essentials l (r ∷ h) vs =
@@ -54,8 +54,8 @@ scanned-essentials l (r ∷ h) vs =
 
 -- the mandatory variables of an assertion s under the hypotheses of rows h
 pub mandatory-scanned :
-  (l : List Statement) (h : List ℕ) (s : Statement) → All (λ r. is-hyp (stmt l r .kind) ≡ true) h
-  → mandatory (map (row-hyp l) h) (static l s)
+    (l : List Statement) (h : List ℕ) (s : Statement) → All (λ r. is-hyp (stmt l r .kind) ≡ true) h
+    → mandatory (map (row-hyp l) h) (static l s)
     ≡ scanned l (drop 1 (s .math)) (scanned-rows l 1 (keep (λ r. is-essential (stmt l r .kind)) h) [])
 unfolding mandatory gather sights
 mandatory-scanned l h s a =
@@ -72,16 +72,16 @@ mandatory-scanned l h s a =
 
 -- ---- the rows of the active `$d`, none of whose names is a constant
 scanned-names :
-  (l : List Statement) (m : List Token) (vs : List (List ℕ)) → All (λ t. constant-name l (t .bytes) ≡ false) m
-  → scanned l m vs ≡ sights (map bytes-of m) vs
+    (l : List Statement) (m : List Token) (vs : List (List ℕ)) → All (λ t. constant-name l (t .bytes) ≡ false) m
+    → scanned l m vs ≡ sights (map bytes-of m) vs
 unfolding scanned sights
 scanned-names l [] vs a = refl
 scanned-names l (t ∷ m) vs (all-more e a) = rw e (scanned-names l m (see vs (t .bytes)) a)
 
 pub optional-scanned :
-  (l : List Statement) (d : List ℕ) (vs : List (List ℕ))
-  → All (λ r. All (λ t. constant-name l (t .bytes) ≡ false) (stmt l r .math)) d
-  → sights (gather (λ n. n) (map (λ r. map bytes-of (stmt l r .math)) d)) vs ≡ scanned-rows l 0 d vs
+    (l : List Statement) (d : List ℕ) (vs : List (List ℕ))
+    → All (λ r. All (λ t. constant-name l (t .bytes) ≡ false) (stmt l r .math)) d
+    → sights (gather (λ n. n) (map (λ r. map bytes-of (stmt l r .math)) d)) vs ≡ scanned-rows l 0 d vs
 unfolding scanned-rows gather sights
 optional-scanned l [] vs a = refl
 optional-scanned l (r ∷ d) vs (all-more e a) =
