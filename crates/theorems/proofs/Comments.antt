@@ -6,7 +6,8 @@ use mathlib.Core.List.{List, [], _∷_, _++_, append-assoc}
 use Rattle.paper.specs.Tokens.{Token, key}
 use Rattle.paper.specs.Comments.{Place, outside, inside, next, after, shown, visible}
 use Rattle.paper.proofs.Tests.{split}
-use Rattle.paper.proofs.All.{All, nil, cons, not-nil}
+use Rattle.paper.proofs.Alls.{All, all-none, all-more}
+use Rattle.paper.proofs.Searches.{not-nil}
 
 -- ---- V1
 pub after-append : (x y : List Token) (m : Place) → after (x ++ y) m ≡ after y (after x m)
@@ -24,10 +25,10 @@ visible-append (t ∷ x) y m =
 -- what holds of tokens holds of the visible ones
 pub visible-all : {P : Token → Type 0} {l : List Token} (m : Place) → All P l → All P (visible l m)
 unfolding visible
-visible-all m nil = nil
-visible-all outside (cons {x = x} h a) =
-    split (key 40 x) (λ k. rw k (visible-all _ a)) (λ k. rw k (cons h (visible-all _ a)))
-visible-all (inside o) (cons {x = x} h a) = visible-all _ a
+visible-all m all-none = all-none
+visible-all outside (all-more {x = x} h a) =
+    split (key 40 x) (λ k. rw k (visible-all _ a)) (λ k. rw k (all-more h (visible-all _ a)))
+visible-all (inside o) (all-more {x = x} h a) = visible-all _ a
 
 -- ---- V2: at a visible token no comment is open
 pub record Shown (l : List Token) (m : Place) (u : List Token) (t : Token) (v : List Token) : Type 0 where

@@ -16,7 +16,8 @@ use Rattle.paper.specs.Give.{Given, gives, all-given}
 use Rattle.paper.specs.Records.{frame-record, diag-record, frame-records, diag-records, frame-stream, diag-stream}
 use Rattle.paper.specs.Answer.{crowded, frame-at, frames-in, Streams, streams, outcome, answer, frames-exit, diags-exit}
 use Rattle.paper.proofs.Lists.{gather-append, keep-append}
-use Rattle.paper.proofs.All.{All, all-append, all-left, all-right, all-map, all-gather, keep-all, keep-none, find-none, none-find}
+use Rattle.paper.proofs.Alls.{All, all-append, all-left, all-right, all-map, keep-all, keep-none}
+use Rattle.paper.proofs.Searches.{all-gather, find-none, none-find}
 use Rattle.theorems.specs.Groups.{Group, statements, blanked, Apart}
 use Rattle.theorems.specs.TakenOut.{taken-out, streams-without}
 use Rattle.theorems.specs.Demand3.{Blanked, Demand3, frame-outside, diag-outside, diags-in, Exact}

@@ -13,7 +13,7 @@ use Rattle.paper.specs.Frames.{Frame}
 use Rattle.paper.specs.Give.{Given, accept, unless, give-c, give-v, give-d, give-f, give-e, give-assertion, give-by, give, gives, all-given}
 use Rattle.paper.proofs.Tests.{split}
 use Rattle.paper.proofs.Lists.{keep-append}
-use Rattle.paper.proofs.All.{All, nil, cons, all-append, all-left, all-right, all-map, keep-none}
+use Rattle.paper.proofs.Alls.{All, all-none, all-more, all-append, all-left, all-right, all-map, keep-none}
 use Rattle.theorems.specs.Groups.{Apart}
 use Rattle.theorems.proofs.Parts.{Three}
 use Rattle.theorems.proofs.Whole.{Agree, give-same, agree}
@@ -42,7 +42,7 @@ pub record Carries (e : ℕ) (r : State) : Type 0 where
   pub disjoints : All (λ x. x .end ≡ e) (r .disjoints)
 
 carries-nothing : (e : ℕ) → Carries e nothing
-carries-nothing e = record { nested = nil; hyps = nil; disjoints = nil }
+carries-nothing e = record { nested = all-none; hyps = all-none; disjoints = all-none }
 
 accept-carries : (d : List Diag) {e : ℕ} {r : State} (f : List Frame) → Carries e r
     → Carries e (accept d r f .records)
@@ -54,13 +54,13 @@ unless-carries [] g c = c
 unless-carries (x ∷ d) {e} g c = carries-nothing e
 
 recorded-carries : (v : Verdict) (e : ℕ) (t : Token) → All (λ x. x .end ≡ e) (recorded-by v e t)
-recorded-carries (against k o) e t = nil
-recorded-carries record-it e t = cons refl nil
+recorded-carries (against k o) e t = all-none
+recorded-carries record-it e t = all-more refl all-none
 
 records-carry : (w : List Statement) (e : ℕ) (l : List Token) (k : List Nested)
     → All (λ x. x .end ≡ e) (nested-records w e l k)
 unfolding nested-records records
-records-carry w e [] k = nil
+records-carry w e [] k = all-none
 records-carry w e (t ∷ l) k =
     all-append (recorded-carries (verdict w k t) e t) (records-carry w e l (k ++ recorded-by (verdict w k t) e t))
 
@@ -71,15 +71,15 @@ carries-by $c w v s =
 carries-by $v w v s =
     split (outermost s)
     (λ e. rw e (carries-nothing (s .end)))
-    (λ e. rw e (record { nested = records-carry w (s .end) (s .math) (v .nested); hyps = nil; disjoints = nil }))
+    (λ e. rw e (record { nested = records-carry w (s .end) (s .math) (v .nested); hyps = all-none; disjoints = all-none }))
 carries-by $d w v s =
-    accept-carries (check-disjoint w v s) [] (record { nested = nil; hyps = nil; disjoints = cons refl nil })
+    accept-carries (check-disjoint w v s) [] (record { nested = all-none; hyps = all-none; disjoints = all-more refl all-none })
 carries-by $f w v s =
     unless-carries (check-label w s) _
-    (accept-carries (check-float w v s) _ (record { nested = nil; hyps = cons refl nil; disjoints = nil }))
+    (accept-carries (check-float w v s) _ (record { nested = all-none; hyps = all-more refl all-none; disjoints = all-none }))
 carries-by $e w v s =
     unless-carries (check-label w s) _
-    (accept-carries (check-expression w v s) _ (record { nested = nil; hyps = cons refl nil; disjoints = nil }))
+    (accept-carries (check-expression w v s) _ (record { nested = all-none; hyps = all-more refl all-none; disjoints = all-none }))
 carries-by $a w v s =
     unless-carries (check-label w s) _ (accept-carries (check-expression w v s) _ (carries-nothing (s .end)))
 carries-by $p w v s =
@@ -118,8 +118,8 @@ Alike q x y = (a : ℕ) → q < a → view x a ≡ view y a
 pub quiet : {q : ℕ} (w : List Statement) {l : List Statement} → All (λ s. s .end ≤ q) l → (x : State)
     → Alike q (later w l x) x
 unfolding later
-quiet w nil x a h = refl
-quiet w (cons {x = s} k b) x a h =
+quiet w all-none x a h = refl
+quiet w (all-more {x = s} k b) x a h =
     let r = give w (view x (s .at)) s .records in
     quiet w b (plus x r) a h
     ∙ (view-plus x r a
@@ -130,8 +130,8 @@ quiet w (cons {x = s} k b) x a h =
 pub before-same : {w u l : List Statement} → All (Agree w u) l → (x : State)
     → (gives w l x ≡ gives u l x) × (later w l x ≡ later u l x)
 unfolding gives later
-before-same nil x = (refl, refl)
-before-same {w} {u} (cons {x = s} {l = l} h a) x =
+before-same all-none x = (refl, refl)
+before-same {w} {u} (all-more {x = s} {l = l} h a) x =
     let e = give-same h (view x (s .at)) in
     let r = before-same a (plus x (give u (view x (s .at)) s .records)) in
     (rw e (ap (λ (k : List Given). give u (view x (s .at)) s ∷ k) (r .0)), rw e (r .1))
@@ -140,8 +140,8 @@ before-same {w} {u} (cons {x = s} {l = l} h a) x =
 pub behind-same : {w u l : List Statement} {q : ℕ} (x y : State) → Alike q x y → All (λ s. q < s .at) l
     → All (Agree w u) l → gives w l x ≡ gives u l y
 unfolding gives
-behind-same x y k nil nil = refl
-behind-same {w} {u} {q = q} x y k (cons {x = s} p b) (cons h a) =
+behind-same x y k all-none all-none = refl
+behind-same {w} {u} {q = q} x y k (all-more {x = s} p b) (all-more h a) =
     let g = give u (view y (s .at)) s in
     let v : view x (s .at) ≡ view y (s .at) = k (s .at) p in
     let e : give w (view x (s .at)) s ≡ g = rw v (give-same h (view y (s .at))) in

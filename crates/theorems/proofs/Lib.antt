@@ -15,7 +15,3 @@ pub mod Records
 pub mod Demand3
 pub mod Examples
 pub mod Unique
-pub mod Order
-pub mod Nesting
-pub mod Invariants
-pub mod Latest

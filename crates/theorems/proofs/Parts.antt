@@ -13,7 +13,7 @@ use Rattle.paper.specs.Statements.{Statement, Item, opens, closes, closers, end
 use Rattle.paper.specs.Reader.{Mode, start, named, math, proof, Step, go, stop, many, given, finish, ending, items}
 use Rattle.paper.proofs.Tests.{same-eq}
 use Rattle.theorems.specs.Groups.{closer, blanked}
-use Rattle.paper.proofs.All.{All, all-map}
+use Rattle.paper.proofs.Alls.{All, all-map}
 use Rattle.theorems.proofs.Tokens.{cut, toks-within, Parts, blanked-parts, toks-parts}
 use Rattle.theorems.proofs.Comments.{after-append, visible-append, visible-all, shown-cut, shown-after}
 use Rattle.theorems.proofs.Reader.{Reads, many-reads, reads-many, reads-append, Level, reads-level, level-shift, TokenAt, ItemAt, reads-at, reads-cut, brace-opened, brace-closed}

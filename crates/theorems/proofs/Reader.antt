@@ -14,7 +14,8 @@ use Rattle.paper.specs.Statements.{Kind, $c, $v, $d, $f, $e, $a, $p, Statement,
 use Rattle.paper.specs.Reader.{Mode, start, named, math, proof, plain-kind, label-kind, room, least, closing, Step, go, stop, shut, begin, keyword, closed, allow, with-items, many}
 use Rattle.paper.proofs.Tests.{split}
 use Rattle.paper.proofs.Sums.{total, total-append}
-use Rattle.paper.proofs.All.{All, nil, cons, all-append, not-nil}
+use Rattle.paper.proofs.Alls.{All, all-none, all-more, all-append}
+use Rattle.paper.proofs.Searches.{not-nil}
 
 -- ---- what one allowed token does
 -- the offset of the statement in hand, or z where there is none
@@ -224,15 +225,15 @@ module _ (P : ℕ → Type 0) where
 
   items-step : {m n : Mode} {d e : ℕ} {t : Token} {j : List Item} → Gives m d t n e j → P (t .at) → InHand P m
       → All (ItemAt P) j
-  items-step (quiet a b) h k = nil
-  items-step {t = t} (opening a b) h k = cons {x = opens (t .at)} h nil
-  items-step {t = t} (closing-one a b c) h k = cons {x = closes (t .at)} h nil
-  items-step {t = t} (stating {s = s} a b) h k = cons {x = states s} (rw a (k (t .at) h)) nil
+  items-step (quiet a b) h k = all-none
+  items-step {t = t} (opening a b) h k = all-more {x = opens (t .at)} h all-none
+  items-step {t = t} (closing-one a b c) h k = all-more {x = closes (t .at)} h all-none
+  items-step {t = t} (stating {s = s} a b) h k = all-more {x = states s} (rw a (k (t .at) h)) all-none
 
   pub reads-at : {u : List Token} {m n : Mode} {d e : ℕ} {i : List Item} → Reads u m d i n e → All (TokenAt P) u
       → InHand P m → All (ItemAt P) i
-  reads-at done a k = nil
-  reads-at (step {m = m} {d = d} h r) (cons p a) k =
+  reads-at done a k = all-none
+  reads-at (step {m = m} {d = d} h r) (all-more p a) k =
       let g = allow-gives m d h in
       all-append (items-step g p k) (reads-at r a (hand-step g p k))
 

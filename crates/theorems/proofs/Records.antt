@@ -23,7 +23,8 @@ use Rattle.paper.specs.Answer.{crowded, frame-at, frames-in, streams}
 use Rattle.paper.proofs.Tests.{split}
 use Rattle.paper.proofs.Lists.{gather-append}
 use Rattle.paper.proofs.Sums.{total}
-use Rattle.paper.proofs.All.{All, nil, cons, all-map, all-both, all-gather, find-none, all-true}
+use Rattle.paper.proofs.Alls.{All, all-none, all-more, all-map, all-both}
+use Rattle.paper.proofs.Searches.{all-gather, find-none, all-true}
 use Rattle.theorems.specs.TakenOut.{taken-out}
 use Rattle.theorems.specs.Demand3.{Offsets, diags-in, Exact, Walked}
 use Rattle.theorems.proofs.Reader.{statement-weight, reads-at}
@@ -41,44 +42,44 @@ Fit x = crowded x ≡ false → Short x
 
 accept-short : (d : List Diag) (r : State) {f : List Frame} → All Fit f → All Fit (accept d r f .frame)
 accept-short [] r a = a
-accept-short (x ∷ d) r a = nil
+accept-short (x ∷ d) r a = all-none
 
 unless-short : (d : List Diag) (g : Given) → All Fit (g .frame) → All Fit (unless d g .frame)
 unless-short [] g a = a
-unless-short (x ∷ d) g a = nil
+unless-short (x ∷ d) g a = all-none
 
 short-by : (k : Kind) (w : List Statement) (v : State) (s : Statement)
     → state-weight v + statement-weight s ≤ 16777217 → All Fit (give-by k w v s .frame)
 unfolding give-c give-v give-d give-f give-e give-assertion
-short-by $c w v s h = split (outermost s) (λ e. rw e nil) (λ e. rw e nil)
-short-by $v w v s h = split (outermost s) (λ e. rw e nil) (λ e. rw e nil)
-short-by $d w v s h = accept-short (check-disjoint w v s) _ nil
+short-by $c w v s h = split (outermost s) (λ e. rw e all-none) (λ e. rw e all-none)
+short-by $v w v s h = split (outermost s) (λ e. rw e all-none) (λ e. rw e all-none)
+short-by $d w v s h = accept-short (check-disjoint w v s) _ all-none
 short-by $f w v s h =
     unless-short (check-label w s) _
     (accept-short (check-float w v s) _
-    (cons
+    (all-more
     (λ c.
     stub-short (s .at) (s .end) (s .label) (token s 0 .bytes) (token s 1 .bytes)
     (omega (arith, two-light s (s .math) refl)))
-    nil))
-short-by $e w v s h = unless-short (check-label w s) _ (accept-short (check-expression w v s) _ nil)
+    all-none))
+short-by $e w v s h = unless-short (check-label w s) _ (accept-short (check-expression w v s) _ all-none)
 short-by $a w v s h =
     unless-short (check-label w s) _
     (accept-short (check-expression w v s) _
-    (cons (full-short 2 s v (formula w v s) (omega (arith, formula-light w v s))) nil))
+    (all-more (full-short 2 s v (formula w v s) (omega (arith, formula-light w v s))) all-none))
 short-by $p w v s h =
     unless-short (check-label w s) _
     (accept-short (check-expression w v s) _
-    (cons (full-short 3 s v (formula w v s) (omega (arith, formula-light w v s))) nil))
+    (all-more (full-short 3 s v (formula w v s) (omega (arith, formula-light w v s))) all-none))
 
 gives-short : (w l : List Statement) (x : State) → state-weight x + statements-weight l ≤ 16777217
     → All (λ g. All Fit (g .frame)) (gives w l x)
 unfolding gives give total
-gives-short w [] x h = nil
+gives-short w [] x h = all-none
 gives-short w (s ∷ l) x h =
     let v = view x (s .at) in
     let r = give w v s .records in
-    cons (short-by (s .kind) w v s (omega (arith, view-weight x (s .at))))
+    all-more (short-by (s .kind) w v s (omega (arith, view-weight x (s .at))))
     (gives-short w l (plus x r) (omega (arith, plus-weight x r, light w v s)))
 
 -- ---- where the statements of a text stand

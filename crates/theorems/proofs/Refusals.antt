@@ -19,7 +19,7 @@ use Rattle.paper.specs.Answer.{refusal-number, number, crowded, frame-at, frame
 use Rattle.paper.specs.declared.Refusal.{Refusal}
 use Rattle.paper.specs.declared.Refusal.the-variants.{LongText, ShortWork, BadByte, OpenComment, BadToken, OpenText, ManyVariables, ShortFrames, ShortDiags}
 use Rattle.paper.proofs.Tests.{split, by-option, clash}
-use Rattle.paper.proofs.All.{All, nil, cons}
+use Rattle.paper.proofs.Alls.{All, all-none, all-more}
 
 -- ---- an outcome is a refusal or given
 pub by-outcome : {A P : Type 0} (o : Outcome A) → ((r : Refusal) → o ≡ refused r → P) → ((a : A) → o ≡ given a → P)
@@ -36,21 +36,21 @@ Good b = or (white b) (printable b) ≡ true
 
 pub clean-good : (l : List ℕ) (o : ℕ) → bad-from l o ≡ none → All Good l
 unfolding bad-from
-clean-good [] o e = nil
+clean-good [] o e = all-none
 clean-good (b ∷ l) o e =
     split (or (white b) (printable b))
-    (λ h. cons h (clean-good l (suc o) (rw h at e)))
+    (λ h. all-more h (clean-good l (suc o) (rw h at e)))
     (λ h. let z : some o ≡ none = rw h at e in let y : true ≡ false = cc in absurd (clash y))
 
 pub good-clean : {l : List ℕ} → All Good l → (o : ℕ) → bad-from l o ≡ none
 unfolding bad-from
-good-clean nil o = refl
-good-clean (cons h a) o = rw h (good-clean a (suc o))
+good-clean all-none o = refl
+good-clean (all-more h a) o = rw h (good-clean a (suc o))
 
 pub blanks-good : (n : ℕ) → All Good (replicate n 32)
 unfolding white printable
-blanks-good zero = nil
-blanks-good (suc n) = cons refl (blanks-good n)
+blanks-good zero = all-none
+blanks-good (suc n) = all-more refl (blanks-good n)
 
 -- ---- numbers 1 to 6
 pub record Passed (t : List ℕ) (w : ℕ) (l : List Statement) : Type 0 where

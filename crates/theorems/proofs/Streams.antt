@@ -10,7 +10,7 @@ use Rattle.paper.specs.Base.{choose, not, within, keep, gather}
 use Rattle.paper.specs.Records.{le, u16, u32, framed}
 use Rattle.paper.specs.Lookup.{u16-at, u32-at}
 use Rattle.paper.proofs.Tests.{split}
-use Rattle.paper.proofs.All.{All, nil, cons}
+use Rattle.paper.proofs.Alls.{All, all-none, all-more}
 use Rattle.theorems.specs.TakenOut.{walk, taken-out}
 
 -- ---- four bytes and their number
@@ -78,8 +78,8 @@ module _ {A : Type 0} (f : A → List ℕ) (at : A → ℕ) (p q : ℕ) where
   walk-gather : {l : List A} → All (λ x. Sound (f x) (at x)) l → (k : Bool)
       → walk p q (gather f l) 0 k ≡ gather f (keep (λ x. not (within p q (at x))) l)
   unfolding walk gather keep
-  walk-gather nil k = refl
-  walk-gather (cons {x = x} {l = l} h a) k =
+  walk-gather all-none k = refl
+  walk-gather (all-more {x = x} {l = l} h a) k =
       walk-sound p q h (gather f l) k
       ∙ rw (walk-gather a true) (split (not (within p q (at x))) (λ e. rw e) (λ e. rw e))
 

@@ -13,7 +13,8 @@ use Rattle.paper.specs.Answer.{laid}
 use Rattle.paper.specs.Tokens.{Token, put, run, toks}
 use Rattle.paper.proofs.Tests.{split}
 use Rattle.theorems.specs.Groups.{span, blanked}
-use Rattle.paper.proofs.All.{All, nil, cons, all-map, not-nil}
+use Rattle.paper.proofs.Alls.{All, all-none, all-more, all-map}
+use Rattle.paper.proofs.Searches.{not-nil}
 
 -- ---- T1, T2: cut at white space
 put-append : (o : ℕ) (h : List ℕ) (x y : List Token) → put o h (x ++ y) ≡ put o h x ++ y
@@ -174,11 +175,11 @@ put-within : (o n : ℕ) (h : List ℕ) (l : List Token) → length h ≤ n → 
     → All (Within o (o + n)) (put o h l)
 put-within o n [] l a b = wider (omega arith) (omega arith) b
 put-within o n (x ∷ h) l a b =
-    cons {x = record { at = o; bytes = x ∷ h }} (omega arith, omega arith) (wider (omega arith) (omega arith) b)
+    all-more {x = record { at = o; bytes = x ∷ h }} (omega arith, omega arith) (wider (omega arith) (omega arith) b)
 
 pub run-within : (l : List ℕ) (o : ℕ) → RunWithin l o
 unfolding run
-run-within [] o = record { short = omega arith; later = nil }
+run-within [] o = record { short = omega arith; later = all-none }
 run-within (b ∷ l) o =
     let r = run-within l (suc o) in
     split (white b)

@@ -18,7 +18,8 @@ use Rattle.paper.specs.Frames.{symbol, formula}
 use Rattle.paper.specs.Give.{give-c, give-v, give-d, give-f, give-e, give-assertion, give-by, give}
 use Rattle.paper.proofs.Tests.{split, same-refl}
 use Rattle.paper.proofs.Lists.{gather-append, keep-append, find-append}
-use Rattle.paper.proofs.All.{All, nil, cons, all-head, all-map, all-ungather, gather-none, keep-all, keep-none, find-any}
+use Rattle.paper.proofs.Alls.{All, all-none, all-more, all-first, all-map, keep-all, keep-none}
+use Rattle.paper.proofs.Searches.{all-ungather, gather-none, find-any}
 use Rattle.theorems.specs.Groups.{inside, outside, symbols, borne, declared-in, Apart}
 use Rattle.theorems.proofs.Parts.{Three}
 
@@ -34,8 +35,8 @@ pub record Agree (w x : List Statement) (s : Statement) : Type 0 where
 each-same : {P : Token → Type 0} (f g : ℕ → Token → List Diag) → ((i : ℕ) (t : Token) → P t → f i t ≡ g i t)
     → {l : List Token} → All P l → (i : ℕ) → each f l i ≡ each g l i
 unfolding each
-each-same f g h nil i = refl
-each-same f g h (cons {x = t} p a) i = rw (h i t p, each-same f g h a (suc i))
+each-same f g h all-none i = refl
+each-same f g h (all-more {x = t} p a) i = rw (h i t p, each-same f g h a (suc i))
 
 each-equal : (f g : ℕ → Token → List Diag) → ((i : ℕ) (t : Token) → f i t ≡ g i t) → (l : List Token) (i : ℕ)
     → each f l i ≡ each g l i
@@ -68,8 +69,8 @@ module _ (w x : List Statement) (d : declared w ≡ declared x) where
   diags-same : (s e : ℕ) {l : List Token} → All (SameOwner w x) l → (i : ℕ) (k : List Nested)
       → nested-diags w s e l i k ≡ nested-diags x s e l i k
   unfolding nested-diags records
-  diags-same s e nil i k = refl
-  diags-same s e (cons {x = t} o a) i k = rw (o, verdict-same k t, diags-same s e a (suc i) _)
+  diags-same s e all-none i k = refl
+  diags-same s e (all-more {x = t} o a) i k = rw (o, verdict-same k t, diags-same s e a (suc i) _)
 
   sense-same : (v : State) (t : Token) → sense w v t ≡ sense x v t
   unfolding sense
@@ -109,10 +110,10 @@ module _ (w x : List Statement) (d : declared w ≡ declared x) where
         records-same (s .end) (s .math) (v .nested),
       )
   give-same-by $d s e l m v = rw (disjoint-same v s)
-  give-same-by $f s e l m v = rw (label-same s (all-head (rw e at l)), float-same v s)
-  give-same-by $e s e l m v = rw (label-same s (all-head (rw e at l)), expression-same v s, formula-same v s)
-  give-same-by $a s e l m v = rw (label-same s (all-head (rw e at l)), expression-same v s, formula-same v s)
-  give-same-by $p s e l m v = rw (label-same s (all-head (rw e at l)), expression-same v s, formula-same v s)
+  give-same-by $f s e l m v = rw (label-same s (all-first (rw e at l)), float-same v s)
+  give-same-by $e s e l m v = rw (label-same s (all-first (rw e at l)), expression-same v s, formula-same v s)
+  give-same-by $a s e l m v = rw (label-same s (all-first (rw e at l)), expression-same v s, formula-same v s)
+  give-same-by $p s e l m v = rw (label-same s (all-first (rw e at l)), expression-same v s, formula-same v s)
 
 pub give-same : {w x : List Statement} {s : Statement} → Agree w x s → (v : State) → give w v s ≡ give x v s
 unfolding give
@@ -187,9 +188,9 @@ module _ {w x : List Statement} {p q : ℕ} (h : Three w x p q) where
 named-all : (Q : List ℕ → Type 0) (l : List Token) → ((n : List ℕ) → any (named n) l ≡ true → Q n)
     → All (λ t. Q (t .bytes)) l
 unfolding any
-named-all Q [] f = nil
+named-all Q [] f = all-none
 named-all Q (t ∷ l) f =
-    cons (f (t .bytes) (rw (same-refl (t .bytes))))
+    all-more (f (t .bytes) (rw (same-refl (t .bytes))))
     (named-all Q l (λ n e. f n (split (sameb (t .bytes) n) (λ k. rw k) (λ k. rw k e))))
 
 refuted : {a b : Bool} → (a ≡ true → b ≡ false) → b ≡ true → a ≡ false
@@ -198,8 +199,8 @@ refuted {a} {b} f e = split a (λ k. let z : b ≡ false = f k in cc) (λ k. k)
 -- ---- W4: the premise of demand 3 suffices
 both : {w x l : List Statement} → declared w ≡ declared x → All (λ s. All (SameOwner w x) (bearer s)) l
     → All (λ s. All (SameOwner w x) (symbols s)) l → All (Agree w x) l
-both g nil nil = nil
-both g (cons a b) (cons c d) = cons (record { globals = g; label-owner = a; symbol-owners = c }) (both g b d)
+both g all-none all-none = all-none
+both g (all-more a b) (all-more c d) = all-more (record { globals = g; label-owner = a; symbol-owners = c }) (both g b d)
 
 module _ {w x : List Statement} {p q : ℕ} (h : Three w x p q) (a : Apart w p q) where
   labels-free : All (SameOwner w x) (labels x)
