@@ -1,11 +1,12 @@
 -- What holds of all that the members of a list give, and what searches say of every member.
 -- For every crate; nothing here is about Metamath.
-use mathlib.Core.Path.{_≡_, refl}
+use mathlib.Core.Path.{_≡_, refl, _∙_}
 use mathlib.Core.Bool.{Bool, true, false}
 use mathlib.Core.List.{List, [], _∷_, _++_, nil≢cons}
 use mathlib.Core.Option.{none, some}
 use Rattle.paper.specs.Base.{all, any, find, gather}
 use Rattle.paper.proofs.Tests.{split, clash}
+use Rattle.paper.proofs.Names.{any-append}
 use Rattle.paper.proofs.Alls.{All, all-none, all-more, all-append, all-left, all-right}
 
 -- of all that the members of a list give
@@ -31,14 +32,10 @@ not-nil [] t z e = nil≢cons e
 not-nil (y ∷ x) t z e = nil≢cons e
 
 pub any-left : {A : Type 0} (p : A → Bool) (l m : List A) → any p l ≡ true → any p (l ++ m) ≡ true
-unfolding any
-any-left p [] m e = let z : false ≡ true = e in cc
-any-left p (x ∷ l) m e = split (p x) (λ h. rw h) (λ h. rw h (any-left p l m (rw h at e)))
+any-left p l m e = any-append p l m ∙ rw e
 
 pub any-right : {A : Type 0} (p : A → Bool) (l m : List A) → any p m ≡ true → any p (l ++ m) ≡ true
-unfolding any
-any-right p [] m e = e
-any-right p (x ∷ l) m e = split (p x) (λ h. rw h) (λ h. rw h (any-right p l m e))
+any-right p l m e = any-append p l m ∙ split (any p l) (λ h. rw h) (λ h. rw (h, e))
 
 pub find-any : {A : Type 0} (p : A → Bool) (l : List A) → any p l ≡ false → find p l ≡ none
 unfolding any find

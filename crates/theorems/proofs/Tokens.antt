@@ -164,9 +164,9 @@ cut l o x t z g = cut-by l o (run l o .head) x t z refl (λ y. cut-later l o y t
 abbrev pub Within : ℕ → ℕ → Token → Type 0
 Within lo hi t = (lo ≤ t .at) × (t .at < hi)
 
-pub record RunWithin (l : List ℕ) (o : ℕ) : Type 0 where
-  pub short : length (run l o .head) ≤ length l
-  pub later : All (Within (suc o) (o + length l)) (run l o .rest)
+record RunWithin (l : List ℕ) (o : ℕ) : Type 0 where
+  short : length (run l o .head) ≤ length l
+  later : All (Within (suc o) (o + length l)) (run l o .rest)
 
 wider : {lo hi lo′ hi′ : ℕ} {l : List Token} → lo′ ≤ lo → hi ≤ hi′ → All (Within lo hi) l → All (Within lo′ hi′) l
 wider a b h = all-map (λ t k. (omega arith, omega arith)) h
@@ -177,7 +177,7 @@ put-within o n [] l a b = wider (omega arith) (omega arith) b
 put-within o n (x ∷ h) l a b =
     all-more {x = record { at = o; bytes = x ∷ h }} (omega arith, omega arith) (wider (omega arith) (omega arith) b)
 
-pub run-within : (l : List ℕ) (o : ℕ) → RunWithin l o
+run-within : (l : List ℕ) (o : ℕ) → RunWithin l o
 unfolding run
 run-within [] o = record { short = omega arith; later = all-none }
 run-within (b ∷ l) o =
