@@ -2,3 +2,4 @@ pub mod Wrote
 pub mod Diagnostic
 pub mod Bits
 pub mod Framing
+pub mod Fields
