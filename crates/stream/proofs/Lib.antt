@@ -9,3 +9,4 @@ pub mod Compare
 pub mod Framing
 pub mod Search
 pub mod Fields
+mod Thin

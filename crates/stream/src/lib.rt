@@ -3,5 +3,6 @@
 pub mod bits;
 pub mod field;
 pub mod record;
+pub mod view;
 pub mod walk;
 pub mod write;
