@@ -3,3 +3,4 @@ pub mod Diagnostic
 pub mod Bits
 pub mod Framing
 pub mod Fields
+pub mod Pushed

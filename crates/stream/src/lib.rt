@@ -3,6 +3,7 @@
 pub mod bits;
 pub mod field;
 pub mod record;
+pub mod state;
 pub mod view;
 pub mod walk;
 pub mod write;
