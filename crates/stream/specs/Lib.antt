@@ -4,3 +4,4 @@ pub mod Bits
 pub mod Framing
 pub mod Fields
 pub mod Pushed
+pub mod Facts
