@@ -10,3 +10,4 @@ pub mod Framing
 pub mod Search
 pub mod Fields
 mod Thin
+mod Examples
