@@ -9,3 +9,6 @@ pub mod Compare
 pub mod Framing
 pub mod Search
 pub mod Front
+pub mod Fields
+mod Thin
+mod Examples
