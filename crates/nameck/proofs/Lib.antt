@@ -1,2 +1,4 @@
 pub mod Atoms
 pub mod Kept
+pub mod Search
+pub mod Answers
