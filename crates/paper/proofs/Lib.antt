@@ -2,3 +2,11 @@ pub mod Tests
 pub mod Lists
 pub mod Names
 pub mod Gather
+pub mod Tables
+pub mod Keys
+pub mod Table
+pub mod Bench
+pub mod Slips
+pub mod Edges
+pub mod Lookups
+pub mod Readings

@@ -68,6 +68,9 @@ index-at x (y ∷ l) e =
     split (sameb x y) (λ q. let z : sameb y x ≡ true = same-sym y x ∙ q in rw z (sym (same-eq x y q)))
     (λ q. let z : sameb y x ≡ false = same-sym y x ∙ q in rw z (index-at x l (rw q at e)))
 
+pub index-none : (x : List ℕ) (l : List (List ℕ)) → member x l ≡ false → length l ≤ index l x
+index-none x l e = omega (arith, index-past x l [] e, ap (λ m. index m x) (append-nil l))
+
 pub member-at : (l : List (List ℕ)) (a : ℕ) → a < length l → member (getD l a []) l ≡ true
 unfolding any
 member-at [] a h = absurd (omega arith)

@@ -1,0 +1,4 @@
+pub mod New
+pub mod Count
+pub mod Mandatory
+pub mod Apart

@@ -1,0 +1,5 @@
+pub mod Rise
+pub mod Grammar
+pub mod Ends
+pub mod Counts
+pub mod Read

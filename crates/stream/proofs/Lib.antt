@@ -1,0 +1,5 @@
+pub mod Laid
+pub mod Wrote
+pub mod Raised
+pub mod Records
+pub mod Bit

@@ -1,0 +1,5 @@
+pub mod All
+pub mod Tokens
+pub mod Comments
+pub mod Reader
+pub mod Ends

@@ -1,0 +1,3 @@
+pub mod Groups
+pub mod TakenOut
+pub mod Demand3

@@ -1,0 +1,5 @@
+pub mod Classes
+pub mod Words
+pub mod Read
+pub mod Counts
+pub mod Parts

@@ -1,0 +1,48 @@
+-- Tokens by offsets: where the white space at an offset stops, where the token there stops, and the tokens from an offset on.
+-- What the cursor answers is the first of those tokens.
+use mathlib.Core.List.{List, [], _∷_}
+use Prim.Native.Nat.{ℕ, suc, _+_, _-_}
+use lib.ListN.{length, take, drop}
+use Rattle.paper.specs.Base.{choose}
+use Rattle.paper.specs.Bytes.{white}
+use Rattle.paper.specs.Tokens.{Token, toks}
+use Rattle.token.specs.Class.{least}
+use Rattle.token.specs.declared.cursor.Span.{Span}
+use Rattle.token.specs.declared.cursor.Next.{Next}
+use Rattle.token.specs.declared.cursor.Next.the-variants as next
+
+-- how many of the first bytes are white space, and those of the first bytes that are not
+unfoldable pub gap : List ℕ → ℕ
+gap [] = 0
+gap (b ∷ l) = let r = suc (gap l) in choose (white b) r 0
+
+unfoldable pub word : List ℕ → List ℕ
+word [] = []
+word (b ∷ l) = let r = b ∷ word l in choose (white b) [] r
+
+unfoldable pub past-gap : List ℕ → ℕ → ℕ
+past-gap t i = i + gap (drop i t)
+
+-- the token from s on whose bytes before i have the least class a, where i is in it or at its end
+unfoldable pub span-from : List ℕ → ℕ → ℕ → ℕ → Span
+span-from t s i a =
+    record { start = s; stop = i + length (word (drop i t)); least = least (word (drop i t)) a }
+
+-- the tokens that start at an offset or later
+unfoldable pub tokens-from : List ℕ → ℕ → List Token
+tokens-from t i = toks (drop i t) i
+
+-- the token with the bytes from one offset to another
+abbrev pub token-at : List ℕ → ℕ → ℕ → Token
+token-at t s e = record { at = s; bytes = take (e - s) (drop s t) }
+
+-- a token of a part of the text that starts at offset k, as a token of the text
+abbrev pub move : ℕ → Token → Token
+move k x = record { at = x .at + k; bytes = x .bytes }
+
+abbrev pub span-of : Token → Span
+span-of x = record { start = x .at; stop = x .at + length (x .bytes); least = least (x .bytes) 4 }
+
+abbrev pub next-of : List Token → Next
+next-of [] = next.Done
+next-of (x ∷ r) = next.Token (span-of x) (record { at = x .at + length (x .bytes) })
