@@ -2,3 +2,5 @@ pub mod Atoms
 pub mod Kept
 pub mod Search
 pub mod Answers
+pub mod Part
+pub mod Column

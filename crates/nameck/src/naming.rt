@@ -2,35 +2,13 @@
 // tokens are global declarations. The math string of a statement goes in as a part of the text.
 use crate::intern::intern;
 use paper::Atom;
+use token::cursor::Cursor;
 ghost use mathlib.Core.Path.{_≡_};
 ghost use Prim.Native.Nat.{_+_, _*_, _<_, _≤_};
-ghost use lib.ListN.{length, drop};
-ghost use Rattle.paper.specs.Bytes.{white};
-ghost use Rattle.paper.specs.Tokens.{run};
+ghost use lib.ListN.{length};
+ghost use Rattle.token.specs.Class.{classes};
 ghost use Rattle.nameck.specs.Table.{noted, globally};
 ghost use Rattle.nameck.specs.Naming.{declaring, SomeToken, TokenNamed, SomeMath, MathNamed, SomeLabel, LabelNamed, SomeStatement, StatementNamed, SomeRead, AllNamed};
-
-/// Whether a byte is white space.
-pub fn is_white(b: u8) -> bool
-    ensures { λ r. ⌜ r ≡ white b ⌝ }
-{
-    b == 9 || b == 10 || b == 12 || b == 13 || b == 32
-}
-
-/// Where the token of a part that starts at `at` stops.
-pub fn token_end(part: &[u8], at: usize) -> usize
-    requires { ⌜ at ≤ length (now part) ⌝ }
-    ensures { λ r. ⌜ r ≡ at + length (run (drop at (now (part .entry))) 0 .head) ⌝ }
-{
-    let mut i = at;
-    while i < part.len() {
-        if is_white(part[i]) {
-            return i;
-        }
-        i += 1;
-    }
-    i
-}
 
 /// Writes a word that was not written before.
 pub fn note(work: &mut [u32], cell: usize, value: u32)
@@ -79,6 +57,7 @@ pub fn name_label(text: &[u8], work: &mut [u32], n: usize, s: usize, names: usiz
 /// Names the math token whose offset stands in a row of the math column: its atom takes the place of the offset.
 /// `part` is the math string, which starts at `from`.
 pub fn name_token(
+    table: &[u8; 256],
     text: &[u8],
     part: &[u8],
     work: &mut [u32],
@@ -88,11 +67,11 @@ pub fn name_token(
     kind: u32,
     names: usize,
 ) -> usize
-    requires { ⌜ SomeToken (now text) (now part) (now work) n from row kind names ⌝ }
+    requires { ⌜ (now table ≡ classes) × SomeToken (now text) (now part) (now work) n from row kind names ⌝ }
     ensures { λ r. ⌜ TokenNamed (now (text .entry)) (now (part .entry)) (now (work .entry)) (now (work .exit)) n from row kind names r ⌝ }
 {
     let at = work[area::math(n, row)] as usize;
-    let stop = from + token_end(part, at - from);
+    let stop = from + Cursor { at: at - from }.to_white(table, part).stop;
     let got = intern(text, work, n, names, at, stop);
     work[area::math(n, row)] = got.atom.0;
     let k = got.names;
@@ -103,6 +82,7 @@ pub fn name_token(
 /// Names the math tokens of a statement, whose math string is `part`.
 /// `kind` is 1 or 2 for an outermost `$c` or `$v`, else 0.
 pub fn name_math(
+    table: &[u8; 256],
     text: &[u8],
     part: &[u8],
     work: &mut [u32],
@@ -111,7 +91,7 @@ pub fn name_math(
     kind: u32,
     names: usize,
 ) -> usize
-    requires { ⌜ SomeMath (now text) (now part) (now work) n s kind names ⌝ }
+    requires { ⌜ (now table ≡ classes) × SomeMath (now text) (now part) (now work) n s kind names ⌝ }
     ensures { λ r. ⌜ MathNamed (now (text .entry)) (now (part .entry)) (now (work .entry)) (now (work .exit)) n s kind names r ⌝ }
 {
     let from = work[area::statement(s, area::FROM)] as usize;
@@ -120,7 +100,7 @@ pub fn name_math(
     let mut k = names;
     let mut i = 0;
     while i < count {
-        k = name_token(text, part, work, n, from, first + i, kind, k);
+        k = name_token(table, text, part, work, n, from, first + i, kind, k);
         i += 1;
     }
     k
@@ -139,8 +119,15 @@ pub fn declaring_kind(kind: u32, end: u32) -> u32
 }
 
 /// Names one statement.
-pub fn name_statement(text: &[u8], work: &mut [u32], n: usize, s: usize, names: usize) -> usize
-    requires { ⌜ SomeStatement (now text) (now work) n s names ⌝ }
+pub fn name_statement(
+    table: &[u8; 256],
+    text: &[u8],
+    work: &mut [u32],
+    n: usize,
+    s: usize,
+    names: usize,
+) -> usize
+    requires { ⌜ (now table ≡ classes) × SomeStatement (now text) (now work) n s names ⌝ }
     ensures { λ r. ⌜ StatementNamed (now (text .entry)) (now (work .entry)) (now (work .exit)) n s names r ⌝ }
 {
     let k = name_label(text, work, n, s, names);
@@ -150,7 +137,7 @@ pub fn name_statement(text: &[u8], work: &mut [u32], n: usize, s: usize, names: 
     );
     let from = work[area::statement(s, area::FROM)] as usize;
     let to = work[area::statement(s, area::TO)] as usize;
-    name_math(text, &text[from..to], work, n, s, kind, k)
+    name_math(table, text, &text[from..to], work, n, s, kind, k)
 }
 
 /// Names every statement: the number of distinct names.
@@ -158,10 +145,11 @@ pub fn name_all(text: &[u8], work: &mut [u32], n: usize, rows: usize) -> usize
     requires { ⌜ SomeRead (now text) (now work) n rows ⌝ }
     ensures { λ r. ⌜ AllNamed (now (text .entry)) (now (work .entry)) (now (work .exit)) n rows r ⌝ }
 {
+    let table = token::class::table();
     let mut k = 0;
     let mut s = 0;
     while s < rows {
-        k = name_statement(text, work, n, s, k);
+        k = name_statement(&table, text, work, n, s, k);
         s += 1;
     }
     k

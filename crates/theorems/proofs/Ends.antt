@@ -126,8 +126,8 @@ owned [] p q e = let c : _≡_ {A = ℕ} 0 1 = cc in absurd (omega arith)
 owned (opens o ∷ i) p q e =
     split (eqb o p)
     (λ k.
-      let a : o ≡ p = eqb-true o p k in
-      rw a (owned-by (closers i []) i p q refl (rw k at e)))
+    let a : o ≡ p = eqb-true o p k in
+    rw a (owned-by (closers i []) i p q refl (rw k at e)))
     (λ k. owned-later (opens o) (owned i p q (rw k at e)))
 owned (closes o ∷ i) p q e = owned-later (closes o) (owned i p q e)
 owned (states s ∷ i) p q e = owned-later (states s) (owned i p q e)

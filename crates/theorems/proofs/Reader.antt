@@ -94,21 +94,21 @@ module _ {t : Token} {n : Mode} {e : ℕ} {j : List Item} where
       split (key 123 t)
       (λ k. same (opening refl k) (rw k at h))
       (λ k. split (key 125 t)
-        (λ c. shut-gives d c (rw (k, c) at h))
-        (λ c. begin-gives (plain-kind t) d (rw (k, c) at h)))
+      (λ c. shut-gives d c (rw (k, c) at h))
+      (λ c. begin-gives (plain-kind t) d (rw (k, c) at h)))
   allow-gives (named s) d h = keyword-gives (label-kind t) d s h
   allow-gives (math k o l m) d h =
       split (and (math-token t) (room k (length m)))
       (λ a. same (quiet {n = math k o l (m ++ (t ∷ []))} refl (omega (arith, weight-append m (t ∷ [])))) (rw a at h))
       (λ a. split (and (key (closing k) t) (leb (least k) (length m)))
-        (λ c. closed-gives k d o l m (rw (a, c) at h))
-        (λ c. never {o = t .at} (rw (a, c) at h)))
+      (λ c. closed-gives k d o l m (rw (a, c) at h))
+      (λ c. never {o = t .at} (rw (a, c) at h)))
   allow-gives (proof o l m p) d h =
       split (math-token t)
       (λ a. same (quiet {n = proof o l m (p ++ (t ∷ []))} refl (omega arith)) (rw a at h))
       (λ a. split (and (key 46 t) (leb 1 (length p)))
-        (λ c. same (stating refl (omega arith)) (rw (a, c) at h))
-        (λ c. never {o = t .at} (rw (a, c) at h)))
+      (λ c. same (stating refl (omega arith)) (rw (a, c) at h))
+      (λ c. never {o = t .at} (rw (a, c) at h)))
 
 -- ---- R1: a run over tokens from a mode and depth, with the items that it adds
 pub data Reads : List Token → Mode → ℕ → List Item → Mode → ℕ → Type 0 where
@@ -145,12 +145,12 @@ many-reads [] m d s n e k h =
 many-reads (t ∷ u) m d s n e k h =
     by-step (allow m d t)
     (λ m′ d′ j a.
-      let r = many-reads u m′ d′ (s ++ j) n e k (rw a at h) in
-      record { added = j ++ r .added; sum = r .sum ∙ append-assoc s j (r .added); reads = step a (r .reads) })
+    let r = many-reads u m′ d′ (s ++ j) n e k (rw a at h) in
+    record { added = j ++ r .added; sum = r .sum ∙ append-assoc s j (r .added); reads = step a (r .reads) })
     (λ o a.
-      let z : stop o ≡ go n e k = sym (many-stop u o) ∙ (rw a at h) in
-      let y : _≡_ {A = ℕ} 0 1 = cc in
-      absurd (omega arith))
+    let z : stop o ≡ go n e k = sym (many-stop u o) ∙ (rw a at h) in
+    let y : _≡_ {A = ℕ} 0 1 = cc in
+    absurd (omega arith))
 
 pub reads-many : {u : List Token} {m n : Mode} {d e : ℕ} {i : List Item} → Reads u m d i n e → (s : List Item) → many u (go m d s) ≡ go n e (s ++ i)
 unfolding many

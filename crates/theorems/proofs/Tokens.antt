@@ -59,11 +59,11 @@ front (b ∷ l) o =
     split (white b)
     (λ e. record { behind = b ∷ l; bytes = rw e; right = rw (e, add-zero) })
     (λ e.
-      record {
-        behind = f .behind;
-        bytes = rw e (ap (λ (x : List ℕ). b ∷ x) (f .bytes));
-        right = rw (e, add-suc, ← suc-add) (f .right);
-      })
+    record {
+      behind = f .behind;
+      bytes = rw e (ap (λ (x : List ℕ). b ∷ x) (f .bytes));
+      right = rw (e, add-suc, ← suc-add) (f .right);
+    })
 
 -- the tokens x, then t, then z: the bytes before t have the tokens x, those after it the tokens z
 pub record Cut (l : List ℕ) (o : ℕ) (x : List Token) (t : Token) (z : List Token) : Type 0 where
@@ -125,29 +125,29 @@ cut-later [] o x t z g = absurd (not-nil x t z g)
 cut-later (b ∷ l) o x t z g =
     split (white b)
     (λ w.
-      let c = cut-by l (suc o) (run l (suc o) .head) x t z refl (λ y. cut-later l (suc o) y t z) (rw w at g) in
-      let q : suc o + length (c .before) ≡ o + suc (length (c .before)) = omega arith in
-      record {
-        before = b ∷ c .before;
-        behind = c .behind;
-        bytes = ap (λ (r : List ℕ). b ∷ r) (c .bytes);
-        at = c .at ∙ q;
-        head = rw w;
-        left = rw w (c .left);
-        right = rw (← q) (c .right);
-      })
+    let c = cut-by l (suc o) (run l (suc o) .head) x t z refl (λ y. cut-later l (suc o) y t z) (rw w at g) in
+    let q : suc o + length (c .before) ≡ o + suc (length (c .before)) = omega arith in
+    record {
+      before = b ∷ c .before;
+      behind = c .behind;
+      bytes = ap (λ (r : List ℕ). b ∷ r) (c .bytes);
+      at = c .at ∙ q;
+      head = rw w;
+      left = rw w (c .left);
+      right = rw (← q) (c .right);
+    })
     (λ w.
-      let c = cut-later l (suc o) x t z (rw w at g) in
-      let q : suc o + length (c .before) ≡ o + suc (length (c .before)) = omega arith in
-      record {
-        before = b ∷ c .before;
-        behind = c .behind;
-        bytes = ap (λ (r : List ℕ). b ∷ r) (c .bytes);
-        at = c .at ∙ q;
-        head = rw w (ap (λ (r : List ℕ). b ∷ r) (c .head));
-        left = rw w (c .left);
-        right = rw (← q) (c .right);
-      })
+    let c = cut-later l (suc o) x t z (rw w at g) in
+    let q : suc o + length (c .before) ≡ o + suc (length (c .before)) = omega arith in
+    record {
+      before = b ∷ c .before;
+      behind = c .behind;
+      bytes = ap (λ (r : List ℕ). b ∷ r) (c .bytes);
+      at = c .at ∙ q;
+      head = rw w (ap (λ (r : List ℕ). b ∷ r) (c .head));
+      left = rw w (c .left);
+      right = rw (← q) (c .right);
+    })
 
 pub cut : (l : List ℕ) (o : ℕ) (x : List Token) (t : Token) (z : List Token) → toks l o ≡ x ++ (t ∷ z) → Cut l o x t z
 unfolding toks
@@ -176,15 +176,15 @@ run-within (b ∷ l) o =
     let r = run-within l (suc o) in
     split (white b)
     (λ w.
-      record {
-        short = rw w (omega arith);
-        later = rw (w, add-suc, ← suc-add) (put-within (suc o) (length l) (run l (suc o) .head) (run l (suc o) .rest) (r .short) (r .later));
-      })
+    record {
+      short = rw w (omega arith);
+      later = rw (w, add-suc, ← suc-add) (put-within (suc o) (length l) (run l (suc o) .head) (run l (suc o) .rest) (r .short) (r .later));
+    })
     (λ w.
-      record {
-        short = rw w (omega (arith, r .short));
-        later = rw (w, add-suc, ← suc-add) (wider (omega arith) (omega arith) (r .later));
-      })
+    record {
+      short = rw w (omega (arith, r .short));
+      later = rw (w, add-suc, ← suc-add) (wider (omega arith) (omega arith) (r .later));
+    })
 
 pub toks-within : (l : List ℕ) (o : ℕ) → All (Within o (o + length l)) (toks l o)
 unfolding toks
@@ -207,7 +207,7 @@ blanked-parts {t} {p} {q} x =
     let i : p + (4 + length (x .body)) ≡ length (x .front) + suc (suc (length (x .body) + 2)) = omega (arith, x .from) in
     let a : take p t ≡ x .front = ap (take p) (x .text) ∙ take-at (x .front) _ p (sym (x .from)) in
     let b : drop (p + (4 + length (x .body))) t ≡ x .back =
-      rw (i, x .text) (drop-append-add (x .front) _ _ ∙ drop-append-add (x .body) (36 ∷ 125 ∷ x .back) 2) in
+    rw (i, x .text) (drop-append-add (x .front) _ _ ∙ drop-append-add (x .body) (36 ∷ 125 ∷ x .back) 2) in
     rw (n, length-replicate {A = ℕ} (4 + length (x .body)) 32, a, b)
 
 -- T6, the blanked side: the tokens before and after

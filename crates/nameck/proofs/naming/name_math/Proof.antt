@@ -6,10 +6,10 @@ use Rattle.area.proofs.statement.Reads as statement-reads
 use Rattle.nameck.proofs.naming.name_token.Reads as name-token-reads
 
 abbrev Inv-loop : tie.InvT-loop
-Inv-loop text part work₀ n s kind names from first count k₀ i₀ work k i = ?
+Inv-loop table text part work₀ n s kind names from first count k₀ i₀ work k i = ?
 
 abbrev μ-loop : tie.MeasureT-loop
-μ-loop text part work₀ n s kind names from first count k₀ i₀ work k i = ?
+μ-loop table text part work₀ n s kind names from first count k₀ i₀ work k i = ?
 
 statement-requires : tie.Need-statement-requires Inv-loop μ-loop
 statement-requires c κs = ?

@@ -1,3 +1,4 @@
+use borrow.Author.Needs.{needs}
 use Rattle.nameck.proofs.naming.name_token.Statement.{statement}
 use Rattle.nameck.proofs.naming.name_token.Tie as tie
 use Rattle.nameck.proofs.naming.name_token.Reads as reads
@@ -5,7 +6,7 @@ use Rattle.nameck.proofs.naming.name_token.Lts as lts
 use Rattle.area.proofs.math.Reads as math-reads
 use Rattle.nameck.proofs.intern.intern.Reads as intern-reads
 use Rattle.nameck.proofs.naming.note_global.Reads as note-global-reads
-use Rattle.nameck.proofs.naming.token_end.Reads as token-end-reads
+use Rattle.token.proofs.cursor.Cursor.to_white.Reads as to-white-reads
 
 math-requires : tie.Need-math-requires
 math-requires c κs = ?
@@ -19,11 +20,11 @@ slice-read-at c = ?
 cast-at : tie.Need-cast-at
 cast-at c = ?
 
-sub-token-end : tie.Need-sub-token-end
-sub-token-end c = ?
+sub-work : tie.Need-sub-work
+sub-work c = ?
 
-token-end-requires : tie.Need-token-end-requires
-token-end-requires c κs = ?
+to-white-requires : tie.Need-to-white-requires
+to-white-requires c κs = search needs
 
 add-stop : tie.Need-add-stop
 add-stop c = ?
@@ -57,8 +58,8 @@ name-token-spec =
     mul-at
     slice-read-at
     cast-at
-    sub-token-end
-    token-end-requires
+    sub-work
+    to-white-requires
     add-stop
     intern-requires
     math-requires-2
