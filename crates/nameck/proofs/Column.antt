@@ -33,7 +33,7 @@ module _ (w : List ℕ) (i u : ℕ) where
       split (eqb (word w i) 0) (λ e. rw e (only-set i (i + 1) w i u (omega arith) (omega arith)))
       (λ e. rw e (only-none i (i + 1) w))
 
-  noted-other : (j : ℕ) → j ≢ i → word (noted w i u) j ≡ word w j
+  pub noted-other : (j : ℕ) → j ≢ i → word (noted w i u) j ≡ word w j
   unfolding noted
   noted-other j d = split (eqb (word w i) 0) (λ e. rw e (word-other w i j u d)) (λ e. rw e)
 

@@ -4,3 +4,5 @@ pub mod Search
 pub mod Answers
 pub mod Part
 pub mod Column
+pub mod Progress
+pub mod Step

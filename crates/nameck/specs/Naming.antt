@@ -147,6 +147,8 @@ pub record SomeToken (t q w : List ℕ) (n from row k m : ℕ) : Type 0 where
   pub holds : AtToken t q w n from row k m done s i
 
 pub record TokenNamed (t q w v : List ℕ) (n from row k m r : ℕ) : Type 0 where
+  -- the words of the statements are kept
+  pub words : (j : ℕ) → j < 4 * n → word v j ≡ word w j
   pub sim :
       (x : Done) (s i : ℕ) → AtToken t q w n from row k m x s i
       → Progress t v n (with-math x k (token (stmt (x .of) s) i ∷ [])) r

@@ -1,3 +1,7 @@
+use mathlib.Core.Path.{_≡_, refl, sym, ap, _∙_}
+use native.Mathlib.Omega.{arith}
+use lib.ListN.{length-set}
+use Rattle.nameck.proofs.Step.{label-none, some-label, label-atom, label-named}
 use borrow.Author.Needs.{needs}
 use Rattle.nameck.proofs.naming.name_label.Statement.{statement}
 use Rattle.nameck.proofs.naming.name_label.Tie as tie
@@ -18,7 +22,7 @@ slice-read-if1 : tie.Need-slice-read-if1
 slice-read-if1 c = search needs
 
 returns : tie.Need-returns
-returns c = ?
+returns c = label-none (c .before .before .statement .ensures) (c .if1 .taken)
 
 statement-requires-2 : tie.Need-statement-requires-2
 statement-requires-2 c κs = search needs
@@ -30,7 +34,7 @@ slice-read-at : tie.Need-slice-read-at
 slice-read-at c = search needs
 
 cast-at : tie.Need-cast-at
-cast-at c = ?
+cast-at c = omega (arith, c .slice-known3 .given (c .before .statement2 .result))
 
 statement-requires-3 : tie.Need-statement-requires-3
 statement-requires-3 c κs = search needs
@@ -42,13 +46,13 @@ slice-read-stop : tie.Need-slice-read-stop
 slice-read-stop c = search needs
 
 cast-stop : tie.Need-cast-stop
-cast-stop c = ?
+cast-stop c = omega (arith, c .slice-known4 .given (c .before .statement3 .result))
 
 add-stop : tie.Need-add-stop
-add-stop c = ?
+add-stop c = let k = some-label (c .before .before .before .before .before .before .statement .ensures) (c .before .before .before .statement2 .ensures) (c .before .statement3 .ensures) (λ z. omega (arith, c .before .before .before .before .if1 .left)) (c .before .before .before .before .before .before .before .before .before .pre) in omega (arith, k .fits, k .spans .short)
 
 intern-requires : tie.Need-intern-requires
-intern-requires c κs = ?
+intern-requires c κs = some-label (c .before .before .before .before .before .before .before .statement .ensures) (c .before .before .before .before .statement2 .ensures) (c .before .before .statement3 .ensures) (λ z. omega (arith, c .before .before .before .before .before .if1 .left)) (c .before .before .before .before .before .before .before .before .before .before .pre)
 
 statement-requires-4 : tie.Need-statement-requires-4
 statement-requires-4 c κs = search needs
@@ -66,19 +70,21 @@ symbol-requires : tie.Need-symbol-requires
 symbol-requires c κs = search needs
 
 cast-note : tie.Need-cast-note
-cast-note c = ?
+cast-note c = omega (arith, c .before .before .before .before .before .before .before .before .before .before .slice-known3 .given (c .before .before .before .before .before .before .before .before .before .before .before .statement2 .result))
 
 add-note : tie.Need-add-note
-add-note c = ?
+add-note c = let k = some-label (c .before .before .before .before .before .before .before .before .before .before .before .before .before .before .statement .ensures) (c .before .before .before .before .before .before .before .before .before .before .before .statement2 .ensures) (c .before .before .before .before .before .before .before .before .before .statement3 .ensures) (λ z. omega (arith, c .before .before .before .before .before .before .before .before .before .before .before .before .if1 .left)) (c .before .before .before .before .before .before .before .before .before .before .before .before .before .before .before .before .before .pre) in omega (arith, k .order, k .fits, k .spans .short)
 
 note-requires : tie.Need-note-requires
-note-requires c κs = ?
+note-requires c κs =
+    let k = label-atom (c .before .before .before .before .before .before .before .before .before .before .before .before .before .before .statement .ensures) (c .before .before .before .before .before .before .before .before .before .before .before .statement2 .ensures) (c .before .before .before .before .before .before .before .before .before .statement3 .ensures) (λ z. omega (arith, c .before .before .before .before .before .before .before .before .before .before .before .before .if1 .left)) (c .before .before .before .before .before .before .before .before .before .before .before .before .before .before .before .before .before .pre) (c .before .before .before .before .before .before .intern .ensures) in
+    simp length-set (omega (arith, k, c .symbol .ensures, c .before .before .before .before .before .before .before .before .before .before .before .before .before .before .before .before .before .pre .holds .progress .spans .room, c .before .before .before .before .before .before .intern .kept .1 .0))
 
 same-length : tie.Need-same-length
-same-length c = ?
+same-length c = c .before .before .note .kept .0 ∙ simp length-set (c .before .before .before .before .before .before .before .before .before .intern .kept .1 .0)
 
 returns-2 : tie.Need-returns-2
-returns-2 c = ?
+returns-2 c = label-named (c .before .before .before .before .before .before .before .before .before .before .before .before .before .before .before .before .before .statement .ensures) (c .before .before .before .before .before .before .before .before .before .before .before .before .before .before .statement2 .ensures) (c .before .before .before .before .before .before .before .before .before .before .before .before .statement3 .ensures) (λ z. omega (arith, c .before .before .before .before .before .before .before .before .before .before .before .before .before .before .before .if1 .left)) (c .before .before .before .before .before .before .before .before .before .intern .ensures) (c .before .before .before .before .before .before .statement4 .ensures) (c .before .before .before .symbol .ensures) (c .before .before .note .ensures)
 
 pub name-label-spec : {M : Type 1} → statement M
 name-label-spec =
