@@ -66,7 +66,7 @@ ahead-grown : {x : Done} {b : List (List ℕ)} → Ahead x b → Grown (sights (
 unfolding atoms
 ahead-grown {x} {b} h =
     let e : sights (gather names-in (x .of)) [] ≡ sights (h .rest) (sights (x .names ++ b) []) =
-      ap (λ l. sights l []) (sym (append-assoc (x .names) b (h .rest) ∙ h .all)) ∙ sights-append (x .names ++ b) (h .rest) [] in
+    ap (λ l. sights l []) (sym (append-assoc (x .names) b (h .rest) ∙ h .all)) ∙ sights-append (x .names ++ b) (h .rest) [] in
     rw e (sights-grown (h .rest) (sights (x .names ++ b) []))
 
 -- ---- the number of names so far
@@ -75,9 +75,14 @@ progress-count {t} {w} {n} {m} h = sym (names-length t w n m) ∙ ap length (h .
 
 pub progress-free : {t w : List ℕ} {n m : ℕ} {x : Done} {b : List (List ℕ)} → Progress t w n x m → Ahead x b → m < n
 progress-free {x = x} {b = b} h a =
-    omega
-    (arith, progress-count h, h .text .few, grown-length (ahead-grown a), grown-length (sights-grown b (sights (x .names) [])),
-    ap length (sights-append (x .names) b []))
+    omega (
+      arith,
+      progress-count h,
+      h .text .few,
+      grown-length (ahead-grown a),
+      grown-length (sights-grown b (sights (x .names) [])),
+      ap length (sights-append (x .names) b []),
+    )
 
 -- ---- a name interned
 abbrev pub seen : Done → List ℕ → Done
@@ -168,14 +173,14 @@ module _ {t w : List ℕ} {n m : ℕ} {x : Done} (h : Progress t w n x m) {s i u
   math-done r j a b c =
       split (eqb (before (x .of) r + j) (x .maths))
       (λ q. let d : before (x .of) r + j ≡ x .maths = eqb-true _ _ q in
-        let z : token (stmt (x .of) s) i ≡ token (stmt (x .of) r) j =
-          sym (at-row (x .of) s i g k) ∙ ap (λ y. getD (gather (λ x. x .math) (x .of)) y no-token) (sym p ∙ sym d) ∙ at-row (x .of) r j a b in
-        ap (λ y. word (set w (math-cell n (x .maths)) u) (math-cell n y)) d
-        ∙ word-same w (math-cell n (x .maths)) u (omega (arith, p, h .shape .room, math-row (h .shape) s i g k))
-        ∙ e ∙ ap (λ y. atom-of (x .of) (y .bytes)) z)
+      let z : token (stmt (x .of) s) i ≡ token (stmt (x .of) r) j =
+      sym (at-row (x .of) s i g k) ∙ ap (λ y. getD (gather (λ x. x .math) (x .of)) y no-token) (sym p ∙ sym d) ∙ at-row (x .of) r j a b in
+      ap (λ y. word (set w (math-cell n (x .maths)) u) (math-cell n y)) d
+      ∙ word-same w (math-cell n (x .maths)) u (omega (arith, p, h .shape .room, math-row (h .shape) s i g k))
+      ∙ e ∙ ap (λ y. atom-of (x .of) (y .bytes)) z)
       (λ q. let d : before (x .of) r + j ≢ x .maths = eqb-ne q in
-        word-other w (math-cell n (x .maths)) (math-cell n (before (x .of) r + j)) u (λ z. d (omega (arith, z)))
-        ∙ h .maths .done r j a b (omega (arith, d)))
+      word-other w (math-cell n (x .maths)) (math-cell n (before (x .of) r + j)) u (λ z. d (omega (arith, z)))
+      ∙ h .maths .done r j a b (omega (arith, d)))
 
   pub progress-math : Progress t (set w (math-cell n (x .maths)) u) n (math-more x) m
   progress-math =
@@ -186,8 +191,8 @@ module _ {t w : List ℕ} {n m : ℕ} {x : Done} (h : Progress t w n x m) {s i u
         maths = record {
           done = math-done;
           left = λ r j a b c.
-            word-other w (math-cell n (x .maths)) (math-cell n (before (x .of) r + j)) u (λ z. omega (arith, z))
-            ∙ h .maths .left r j a b (omega arith);
+              word-other w (math-cell n (x .maths)) (math-cell n (before (x .of) r + j)) u (λ z. omega (arith, z))
+              ∙ h .maths .left r j a b (omega arith);
         };
         spans = spans-kept (math-set .len) (λ a c b d. math-set .below (name-cell n a c) (omega (arith, h .spans .rows))) (h .spans);
         names = names-kept t w (set w (math-cell n (x .maths)) u) n m (λ a c b d. math-set .below (name-cell n a c) (omega (arith, h .spans .rows))) ∙ h .names;
@@ -237,24 +242,24 @@ module _ {t w : List ℕ} {n m : ℕ} {x : Done} (h : Progress t w n x m) {u : �
   label-done s a b f =
       split (eqb s (x .labels))
       (λ q. let d : s ≡ x .labels = eqb-true _ _ q in
-        ap (λ r. word (set w (statement-cell (x .labels) 2) u) (statement-cell r 2)) d
-        ∙ word-same w (statement-cell (x .labels) 2) u (omega (arith, h .shape .room, h .shape .few))
-        ∙ e ∙ ap (λ r. atom-of (x .of) (stmt (x .of) r .label)) (sym d))
+      ap (λ r. word (set w (statement-cell (x .labels) 2) u) (statement-cell r 2)) d
+      ∙ word-same w (statement-cell (x .labels) 2) u (omega (arith, h .shape .room, h .shape .few))
+      ∙ e ∙ ap (λ r. atom-of (x .of) (stmt (x .of) r .label)) (sym d))
       (λ q. let d : s ≢ x .labels = eqb-ne q in
-        word-other w (statement-cell (x .labels) 2) (statement-cell s 2) u (λ z. d (omega (arith, z)))
-        ∙ h .labels .done s (omega (arith, d)) b f)
+      word-other w (statement-cell (x .labels) 2) (statement-cell s 2) u (λ z. d (omega (arith, z)))
+      ∙ h .labels .done s (omega (arith, d)) b f)
 
   pub progress-label : Progress t (set w (statement-cell (x .labels) 2) u) n (label-more x) m
   progress-label =
       record {
         shape = shape-kept (label-set .len)
-          (λ r c a b d. word-other w (statement-cell (x .labels) 2) (statement-cell r c) u (λ z. d (omega (arith, z)))) (h .shape);
+            (λ r c a b d. word-other w (statement-cell (x .labels) 2) (statement-cell r c) u (λ z. d (omega (arith, z)))) (h .shape);
         text = h .text;
         labels = record {
           done = label-done;
           left = λ s a b.
-            word-other w (statement-cell (x .labels) 2) (statement-cell s 2) u (λ z. omega (arith, z))
-            ∙ h .labels .left s (omega arith) b;
+              word-other w (statement-cell (x .labels) 2) (statement-cell s 2) u (λ z. omega (arith, z))
+              ∙ h .labels .left s (omega arith) b;
         };
         maths = maths-kept (λ i. label-set .above (math-cell n i) (omega (arith, h .shape .few))) (h .maths);
         spans = spans-kept (label-set .len) (λ a c b d. label-set .above (name-cell n a c) (omega (arith, h .shape .few))) (h .spans);
@@ -297,8 +302,8 @@ module _ {t w : List ℕ} {n m : ℕ} {x : Done} (h : Progress t w n x m) (a c u
         owners = y;
         globals = z;
         blank = blank-kept
-          (λ i j k l p. noted-other w (symbol-cell n a c) u (symbol-cell n i j) (λ q. omega (arith, q)))
-          (λ i k. note-only .below (name-cell n i 2) (omega arith)) (h .blank);
+            (λ i j k l p. noted-other w (symbol-cell n a c) u (symbol-cell n i j) (λ q. omega (arith, q)))
+            (λ i k. note-only .below (name-cell n i 2) (omega arith)) (h .blank);
       }
 
 module _ {t w : List ℕ} {n m : ℕ} {x : Done} (h : Progress t w n x m) {a : ℕ} (b : List ℕ) (k : member b (sights (x .names) []) ≡ true) (e : a ≡ index (sights (x .names) []) b) where
