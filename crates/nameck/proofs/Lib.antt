@@ -6,3 +6,5 @@ pub mod Part
 pub mod Column
 pub mod Progress
 pub mod Step
+pub mod Walk
+pub mod Whole

@@ -1,0 +1,155 @@
+-- A whole statement, and all statements: from what the reader leaves to what naming must leave.
+-- Assumes nothing.
+use mathlib.Core.Path.{_≡_, refl, sym, ap, _∙_}
+use mathlib.Core.Bool.{Bool, true, false}
+use mathlib.Core.List.{List, [], _∷_, _++_, map, append-assoc}
+use Prim.Native.Nat.{ℕ, zero, suc, _+_, _-_, _*_, _<_, _≤_}
+use native.Mathlib.Nat.{not-suc-le-zero}
+use native.Mathlib.Numerals.{add-one}
+use native.Mathlib.Omega.{arith}
+use lib.Dec.{eqb, leb, ltb}
+use lib.ListN.{length, getD, take, drop, length-append, List·getD-append}
+use lib.Seq.{take-length, getD-append-add}
+use borrow.Author.Tests.{ltb-true, ltb-false, leb-true}
+use Rattle.paper.specs.Base.{choose, and, find, gather}
+use Rattle.paper.specs.Tokens.{Token, tokens}
+use Rattle.paper.specs.Statements.{Kind, $c, $v, $d, $f, $e, $a, $p, Statement, none-end, outermost}
+use Rattle.paper.specs.Names.{bearer, labels, owner, declared-by, declarations, declared, global}
+use Rattle.paper.specs.Frames.{sights}
+use Rattle.paper.proofs.Tests.{split}
+use Rattle.paper.proofs.Gather.{map-append, gather-more, gather-parts, gather-upto}
+use Rattle.area.specs.Cells.{statement-cell, name-cell, symbol-cell, math-cell, word}
+use Rattle.token.specs.Words.{tokens-from}
+use Rattle.token.proofs.Counts.{tokens-few}
+use Rattle.reader.specs.Rows.{no-statement, stmt, before, kind-number, Shape, Rows}
+use Rattle.facts.specs.Facts.{Facts}
+use Rattle.nameck.specs.Atoms.{bytes-of, names-in, atoms, atom-of, name-of}
+use Rattle.nameck.specs.Named.{Named, Fresh}
+use Rattle.nameck.specs.Table.{name-at, names-of}
+use Rattle.nameck.specs.Naming.{Done, before-statement, with-label, declared-as, with-math, Column, Progress, Ahead, AtMath, SomeMath, MathNamed, AtLabel, SomeLabel, LabelNamed, declaring, SomeStatement, StatementNamed, Readable, SomeRead, AllNamed}
+use Rattle.nameck.proofs.Atoms.{atoms-few}
+use Rattle.nameck.proofs.Search.{names-length}
+use Rattle.nameck.proofs.Progress.{progress-count}
+
+-- ---- the kind that declares
+declaring-by : (k : Kind) (b : Bool) (m : List Token) → declared-as (choose (and (leb (kind-number k) 2) b) (kind-number k) 0) m ≡ choose b (declared-by k m) []
+declaring-by $c true m = refl
+declaring-by $c false m = refl
+declaring-by $v true m = refl
+declaring-by $v false m = refl
+declaring-by $d true m = refl
+declaring-by $d false m = refl
+declaring-by $f true m = refl
+declaring-by $f false m = refl
+declaring-by $e true m = refl
+declaring-by $e false m = refl
+declaring-by $a true m = refl
+declaring-by $a false m = refl
+declaring-by $p true m = refl
+declaring-by $p false m = refl
+
+declares-all : (s : Statement) → declared-as (declaring (kind-number (s .kind)) (s .end)) (s .math) ≡ declarations s
+unfolding declaring outermost
+declares-all s = declaring-by (s .kind) (eqb (s .end) none-end) (s .math)
+
+declaring-small : (k e : ℕ) → declaring k e ≤ 2
+unfolding declaring
+declaring-small k e =
+    split (leb k 2) (λ p. split (eqb e none-end) (λ q. rw (p, q) (leb-true k 2 p)) (λ q. rw (p, q) (omega arith)))
+    (λ p. rw p (omega arith))
+
+-- ---- one statement after those before it
+module _ (l : List Statement) (s : ℕ) (h : s < length l) where
+  names-more : gather names-in (take (s + 1) l) ≡ gather names-in (take s l) ++ names-in (stmt l s)
+  unfolding stmt
+  names-more = gather-more names-in l no-statement s h
+
+  before-more : before l (s + 1) ≡ before l s + length (stmt l s .math)
+  unfolding before stmt
+  before-more =
+      ap length (gather-more (λ x. x .math) l no-statement s h)
+      ∙ length-append (gather (λ x. x .math) (take s l)) (stmt l s .math)
+
+  labels-more : labels (take (s + 1) l) ≡ labels (take s l) ++ bearer (stmt l s)
+  unfolding labels stmt
+  labels-more = gather-more bearer l no-statement s h
+
+  declared-more : declared (take (s + 1) l) ≡ declared (take s l) ++ declarations (stmt l s)
+  unfolding declared stmt
+  declared-more = gather-more declarations l no-statement s h
+
+  names-all : gather names-in (take s l) ++ (names-in (stmt l s) ++ gather names-in (drop (suc s) l)) ≡ gather names-in l
+  unfolding stmt
+  names-all = gather-parts names-in l no-statement s h
+
+  statement-done : (k : ℕ) → k ≡ declaring (kind-number (stmt l s .kind)) (stmt l s .end) → with-math (with-label (before-statement l s) (stmt l s)) k (stmt l s .math) ≡ before-statement l (s + 1)
+  statement-done k e =
+      let x = stmt l s in
+      let a : before l s + length (x .math) ≡ before l (s + 1) = sym before-more in
+      let b : (gather names-in (take s l) ++ map bytes-of (bearer x)) ++ map bytes-of (x .math) ≡ gather names-in (take (s + 1) l) =
+        append-assoc (gather names-in (take s l)) (map bytes-of (bearer x)) (map bytes-of (x .math))
+        ∙ ap (λ r. gather names-in (take s l) ++ r) (sym (map-append bytes-of (bearer x) (x .math)))
+        ∙ sym names-more in
+      let c : labels (take s l) ++ bearer x ≡ labels (take (s + 1) l) = sym labels-more in
+      let d : declared (take s l) ++ declared-as k (x .math) ≡ declared (take (s + 1) l) =
+        ap (λ r. declared (take s l) ++ r) (ap (λ i. declared-as i (x .math)) e ∙ declares-all x) ∙ sym declared-more in
+      rw (a, b, c, d)
+
+  ahead-label : Ahead (before-statement l s) (map bytes-of (bearer (stmt l s)))
+  ahead-label =
+      let x = stmt l s in
+      record {
+        rest = map bytes-of (x .math) ++ gather names-in (drop (suc s) l);
+        all = ap (λ r. gather names-in (take s l) ++ r)
+          (sym (append-assoc (map bytes-of (bearer x)) (map bytes-of (x .math)) (gather names-in (drop (suc s) l)))
+          ∙ ap (λ r. r ++ gather names-in (drop (suc s) l)) (sym (map-append bytes-of (bearer x) (x .math))))
+          ∙ names-all;
+      }
+
+  ahead-math : Ahead (with-label (before-statement l s) (stmt l s)) (map bytes-of (stmt l s .math))
+  ahead-math =
+      let x = stmt l s in
+      record {
+        rest = gather names-in (drop (suc s) l);
+        all = append-assoc (gather names-in (take s l)) (map bytes-of (bearer x)) (map bytes-of (x .math) ++ gather names-in (drop (suc s) l))
+          ∙ ahead-label .all;
+      }
+
+  at-label : {t w : List ℕ} {n m : ℕ} → Progress t w n (before-statement l s) m → AtLabel t w n s m (before-statement l s)
+  at-label p = record { progress = p; statement = h; next = refl; ahead = ahead-label }
+
+  at-math : {t q w : List ℕ} {n m k : ℕ} → Progress t w n (with-label (before-statement l s) (stmt l s)) m → q ≡ take (word w (statement-cell s 4) - word w (statement-cell s 3)) (drop (word w (statement-cell s 3)) t) → k ≤ 2 → AtMath t q w n s k m (with-label (before-statement l s) (stmt l s))
+  at-math p e k = record { progress = p; statement = h; next = refl; part = e; ahead = ahead-math; kind = k }
+
+-- ---- the label and then the math tokens
+pub statement-label : {t w : List ℕ} {n s m : ℕ} → SomeStatement t w n s m → SomeLabel t w n s m
+statement-label {s = s} a =
+    record { done = before-statement (a .of) s; holds = at-label (a .of) s (a .here) (a .progress) }
+
+module _ {t w u : List ℕ} {n s m r : ℕ} (y : LabelNamed t w u n s m r) where
+  labelled-so : (l : List Statement) → s < length l → Progress t w n (before-statement l s) m → Progress t u n (with-label (before-statement l s) (stmt l s)) r
+  labelled-so l h p = y .sim (before-statement l s) (at-label l s h p)
+
+  -- what the words then say of the statement
+  pub statement-shape : (a : SomeStatement t w n s m) → Shape t u n (a .of)
+  statement-shape a = labelled-so (a .of) (a .here) (a .progress) .shape
+
+  pub statement-math : {q : List ℕ} {i j k e f : ℕ} → i ≡ statement-cell s 0 → j ≡ statement-cell s 7 → k ≡ declaring (getD u i 0) (getD u j 0) → e ≡ statement-cell s 3 → f ≡ statement-cell s 4 → q ≡ take (getD u f 0 - getD u e 0) (drop (getD u e 0) t) → SomeStatement t w n s m → SomeMath t q u n s k r
+  unfolding word
+  statement-math {q} {i} {j} {k} {e} {f} pi pj pk pe pf pq a =
+      record {
+        done = with-label (before-statement (a .of) s) (stmt (a .of) s);
+        holds = at-math (a .of) s (a .here) (labelled-so (a .of) (a .here) (a .progress)) (pq ∙ rw (pe, pf)) (rw pk (declaring-small (getD u i 0) (getD u j 0)));
+      }
+
+  pub statement-named : {q v : List ℕ} {i j k e f c : ℕ} → i ≡ statement-cell s 0 → j ≡ statement-cell s 7 → k ≡ declaring (getD u i 0) (getD u j 0) → e ≡ statement-cell s 3 → f ≡ statement-cell s 4 → q ≡ take (getD u f 0 - getD u e 0) (drop (getD u e 0) t) → MathNamed t q u v n s k r c → StatementNamed t w v n s m c
+  unfolding word
+  statement-named {q} {v} {i} {j} {k} {e} {f} {c} pi pj pk pe pf pq z = record { sim = λ l h p. whole l h p }
+    where
+      whole : (l : List Statement) → s < length l → Progress t w n (before-statement l s) m → Progress t v n (before-statement l (s + 1)) c
+      whole l h p =
+          let x = labelled-so l h p in
+          let d : k ≡ declaring (kind-number (stmt l s .kind)) (stmt l s .end) =
+            pk ∙ rw (pi, pj, x .shape .kind s h, x .shape .end s h) in
+          rw (← (statement-done l s h k d))
+          (z .sim (with-label (before-statement l s) (stmt l s)) (at-math l s h x (pq ∙ rw (pe, pf)) (rw pk (declaring-small (getD u i 0) (getD u j 0)))))
