@@ -30,9 +30,9 @@ math-then : (x : Done) (k : ℕ) (l m : List Token) → with-math (with-math x k
 math-then x k l m =
     let a : (x .maths + length l) + length m ≡ x .maths + length (l ++ m) = omega (arith, length-append l m) in
     let b : (x .names ++ map bytes-of l) ++ map bytes-of m ≡ x .names ++ map bytes-of (l ++ m) =
-      append-assoc (x .names) (map bytes-of l) (map bytes-of m) ∙ ap (λ r. x .names ++ r) (sym (map-append bytes-of l m)) in
+    append-assoc (x .names) (map bytes-of l) (map bytes-of m) ∙ ap (λ r. x .names ++ r) (sym (map-append bytes-of l m)) in
     let c : (x .declared ++ declared-as k l) ++ declared-as k m ≡ x .declared ++ declared-as k (l ++ m) =
-      append-assoc (x .declared) (declared-as k l) (declared-as k m) ∙ ap (λ r. x .declared ++ r) (sym (declared-append k l m)) in
+    append-assoc (x .declared) (declared-as k l) (declared-as k m) ∙ ap (λ r. x .declared ++ r) (sym (declared-append k l m)) in
     rw (a, b, c)
 
 math-more : (x : Done) (k : ℕ) (s : Statement) (i : ℕ) → i < length (s .math) → with-math (with-math x k (take i (s .math))) k (token s i ∷ []) ≡ with-math x k (take (i + 1) (s .math))
@@ -56,13 +56,13 @@ ahead-token x k s i h a =
     let m = s .math in
     let r = map bytes-of (drop (suc i) m) in
     let e : map bytes-of m ≡ map bytes-of (take i m) ++ (b ∷ r) =
-      ap (map bytes-of) (sym (take-append-drop i m) ∙ ap (λ l. take i m ++ l) (drop-cons m i no-token h))
-      ∙ map-append bytes-of (take i m) (token s i ∷ drop (suc i) m) in
+    ap (map bytes-of) (sym (take-append-drop i m) ∙ ap (λ l. take i m ++ l) (drop-cons m i no-token h))
+    ∙ map-append bytes-of (take i m) (token s i ∷ drop (suc i) m) in
     record {
       rest = r ++ a .rest;
       all = append-assoc (x .names) (map bytes-of (take i m)) (b ∷ (r ++ a .rest))
-        ∙ ap (λ l. x .names ++ l) (sym (ap (λ l. l ++ a .rest) e ∙ append-assoc (map bytes-of (take i m)) (b ∷ r) (a .rest)))
-        ∙ a .all;
+          ∙ ap (λ l. x .names ++ l) (sym (ap (λ l. l ++ a .rest) e ∙ append-assoc (map bytes-of (take i m)) (b ∷ r) (a .rest)))
+          ∙ a .all;
     }
 
 -- ---- the walk over the math tokens: i of them are named
@@ -89,7 +89,7 @@ module _ {t q w₀ w : List ℕ} {n s k m r : ℕ} (i : ℕ) (v : InvMath t q w�
       let g : word w (statement-cell s 4) ≡ word w₀ (statement-cell s 4) = v .words (statement-cell s 4) (omega (arith, a .statement, z .few)) in
       let d : i < length (stmt (x .of) s .math) = omega (arith, z .count s (a .statement)) in
       let o : x .maths + length (take i (stmt (x .of) s .math)) ≡ before (x .of) s + i =
-        omega (arith, a .next, length-take-le i (stmt (x .of) s .math) (omega arith)) in
+      omega (arith, a .next, length-take-le i (stmt (x .of) s .math) (omega arith)) in
       record {
         progress = v .sim x a .1;
         statement = a .statement;
@@ -117,9 +117,11 @@ module _ {t q w₀ w : List ℕ} {n s k m r : ℕ} (i : ℕ) (v : InvMath t q w�
         words = λ j g. y .words j g ∙ v .words j g;
         len = c ∙ v .len;
         sim = λ x a.
-          let d : i < length (stmt (x .of) s .math) = omega (arith, a .progress .shape .count s (a .statement)) in
-          (omega arith, rw (sym (math-more x k (stmt (x .of) s) i d))
-          (y .sim (with-math x k (take i (stmt (x .of) s .math))) s i (at-token x a)));
+            let d : i < length (stmt (x .of) s .math) = omega (arith, a .progress .shape .count s (a .statement)) in (
+              omega arith,
+              rw (sym (math-more x k (stmt (x .of) s) i d))
+                  (y .sim (with-math x k (take i (stmt (x .of) s .math))) s i (at-token x a)),
+            );
       }
 
 pub math-end : {t q w₀ w : List ℕ} {n s k m r i : ℕ} → InvMath t q w₀ w n s k m r i → word w₀ (statement-cell s 6) ≤ i → MathNamed t q w₀ w n s k m r

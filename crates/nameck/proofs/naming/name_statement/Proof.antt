@@ -1,3 +1,6 @@
+use mathlib.Core.Path.{_≡_, refl, sym, ap, _∙_}
+use native.Mathlib.Omega.{arith}
+use Rattle.nameck.proofs.Whole.{statement-label, statement-order, statement-within, statement-math, statement-named}
 use borrow.Author.Needs.{needs}
 use Rattle.nameck.proofs.naming.name_statement.Statement.{statement}
 use Rattle.nameck.proofs.naming.name_statement.Tie as tie
@@ -9,7 +12,7 @@ use Rattle.nameck.proofs.naming.name_label.Reads as name-label-reads
 use Rattle.nameck.proofs.naming.name_math.Reads as name-math-reads
 
 name-label-requires : tie.Need-name-label-requires
-name-label-requires c κs = ?
+name-label-requires c κs = statement-label (c .before .before .before .pre .1)
 
 statement-requires : tie.Need-statement-requires
 statement-requires c κs = search needs
@@ -42,7 +45,7 @@ slice-read-from : tie.Need-slice-read-from
 slice-read-from c = search needs
 
 cast-from : tie.Need-cast-from
-cast-from c = ?
+cast-from c = omega (arith, c .slice-known5 .given (c .before .statement3 .result))
 
 statement-requires-4 : tie.Need-statement-requires-4
 statement-requires-4 c κs = search needs
@@ -54,25 +57,25 @@ slice-read-to : tie.Need-slice-read-to
 slice-read-to c = search needs
 
 cast-to : tie.Need-cast-to
-cast-to c = ?
+cast-to c = omega (arith, c .slice-known6 .given (c .before .statement4 .result))
 
 sub-name-math : tie.Need-sub-name-math
-sub-name-math c = ?
+sub-name-math c = statement-order (c .before .before .before .before .before .before .before .before .before .before .before .name-label .ensures) (c .before .before .before .statement3 .ensures) (c .before .statement4 .ensures) (c .before .before .before .before .before .before .before .before .before .before .before .before .before .before .before .pre .1)
 
 part-name-math-start : tie.Need-part-name-math-start
-part-name-math-start c = ?
+part-name-math-start c = statement-order (c .before .before .before .before .before .before .before .before .before .before .before .name-label .ensures) (c .before .before .before .statement3 .ensures) (c .before .statement4 .ensures) (c .before .before .before .before .before .before .before .before .before .before .before .before .before .before .before .pre .1)
 
 part-name-math-end : tie.Need-part-name-math-end
-part-name-math-end c = ?
+part-name-math-end c = statement-within (c .before .before .before .before .before .before .before .before .before .before .before .name-label .ensures) (c .before .statement4 .ensures) (c .before .before .before .before .before .before .before .before .before .before .before .before .before .before .before .pre .1)
 
 name-math-requires : tie.Need-name-math-requires
-name-math-requires c κs = ?
+name-math-requires c κs = (c .before .before .before .before .before .before .before .before .before .before .before .before .before .before .before .before .before .pre .0, statement-math (c .before .before .before .before .before .before .before .before .before .before .before .before .before .name-label .ensures) (c .before .before .before .before .before .before .before .before .before .before .statement .ensures) (c .before .before .before .before .before .before .before .before .statement2 .ensures) (c .before .before .before .before .before .before .declaring-kind .ensures) (c .before .before .before .before .before .statement3 .ensures) (c .before .before .before .statement4 .ensures) refl (c .before .before .before .before .before .before .before .before .before .before .before .before .before .before .before .before .before .pre .1))
 
 same-length : tie.Need-same-length
 same-length c = search needs
 
 returns : tie.Need-returns
-returns c = ?
+returns c = statement-named (c .before .before .before .before .before .before .before .before .before .before .before .before .before .before .before .before .name-label .ensures) (c .before .before .before .before .before .before .before .before .before .before .before .before .before .statement .ensures) (c .before .before .before .before .before .before .before .before .before .before .before .statement2 .ensures) (c .before .before .before .before .before .before .before .before .before .declaring-kind .ensures) (c .before .before .before .before .before .before .before .before .statement3 .ensures) (c .before .before .before .before .before .before .statement4 .ensures) refl (c .before .before .name-math .ensures)
 
 pub name-statement-spec : {M : Type 1} → statement M
 name-statement-spec =
