@@ -1,22 +1,20 @@
 -- What the look-ups read is the answer of the definitions.
 -- Assumes nothing.
-use mathlib.Core.Path.{_≡_, refl, sym, ap, _∙_}
+use mathlib.Core.Path.{_≡_, refl, ap, _∙_}
 use mathlib.Core.Bool.{Bool, true, false}
 use mathlib.Core.List.{List}
 use mathlib.Core.Option.{Option, none, some}
-use Prim.Native.Nat.{ℕ, _+_, _-_, _*_, _/_, _%_, _<_, _≤_}
+use Prim.Native.Nat.{ℕ, _+_, _-_, _*_, _/_, _%_}
 use native.Mathlib.Omega.{arith}
-use lib.ListN.{length, getD}
+use lib.ListN.{getD}
 use Rattle.paper.specs.Base.{choose}
 use Rattle.paper.specs.Tokens.{Token}
 use Rattle.paper.specs.Names.{owner, Declared, global}
 use Rattle.area.specs.Cells.{symbol-cell, word}
 use Rattle.nameck.specs.Atoms.{name-of}
-use Rattle.nameck.specs.Named.{owner-word, global-word, Named}
+use Rattle.nameck.specs.Named.{owner-word, global-word}
 use Rattle.nameck.specs.Lookups.{owner-answer, global-answer, Owned, DeclaredBy}
-use Rattle.nameck.specs.declared.lookup.Owner.{Owner}
 use Rattle.nameck.specs.declared.lookup.Owner.the-variants as o
-use Rattle.nameck.specs.declared.lookup.Global.{Global}
 use Rattle.nameck.specs.declared.lookup.Global.the-variants as g
 
 -- ---- by the word

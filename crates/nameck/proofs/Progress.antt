@@ -3,17 +3,16 @@
 use mathlib.Core.Path.{_≡_, refl, sym, ap, _∙_}
 use mathlib.Core.Logic.{_≢_}
 use mathlib.Core.Bool.{Bool, true, false}
-use mathlib.Core.List.{List, [], _∷_, _++_, map, append-assoc, append-nil}
-use mathlib.Core.Option.{Option, none, some}
+use mathlib.Core.List.{List, [], _∷_, _++_, append-assoc, append-nil}
 use Prim.Native.Nat.{ℕ, zero, suc, _+_, _-_, _*_, _<_, _≤_}
 use native.Mathlib.Omega.{arith}
 use lib.Dec.{eqb}
-use lib.ListN.{length, getD, take, drop, set, length-set}
+use lib.ListN.{length, getD, take, drop, set}
 use borrow.Author.Tests.{eqb-true, ne-eqb}
 use Rattle.paper.specs.Base.{choose, gather}
 use Rattle.paper.specs.Tokens.{Token}
 use Rattle.paper.specs.Statements.{labelled, Statement}
-use Rattle.paper.specs.Names.{Declared, declares}
+use Rattle.paper.specs.Names.{Declared}
 use Rattle.paper.specs.Frames.{member, see, sights, index}
 use Rattle.paper.specs.Checks.{token, no-token}
 use Rattle.paper.proofs.Tests.{split, clash, eqb-ne}
@@ -23,7 +22,6 @@ use Rattle.area.specs.Cells.{statement-cell, name-cell, symbol-cell, math-cell,
 use Rattle.area.proofs.Laws.{word-same, word-other, only-set}
 use Rattle.reader.specs.Rows.{no-statement, stmt, before}
 use Rattle.nameck.specs.Atoms.{names-in, atoms, atom-of}
-use Rattle.nameck.specs.Named.{global-word}
 use Rattle.nameck.specs.Table.{names-of, Spans, Interns, noted, globally}
 use Rattle.nameck.specs.Naming.{Done, declared-as, Column, owner-by, global-by, Labels, Maths, Blank, Progress, Ahead}
 use Rattle.nameck.proofs.Kept.{shape-kept, math-row}

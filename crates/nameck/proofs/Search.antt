@@ -5,16 +5,15 @@ use mathlib.Core.Logic.{_≢_, ⊎-elim}
 use mathlib.Core.Bool.{Bool, true, false}
 use mathlib.Core.List.{List, [], _∷_, _++_}
 use Prim.Native.Nat.{ℕ, zero, suc, _+_, _-_, _*_, _<_, _≤_}
-use native.Mathlib.Nat.{add-zero, eq-or-lt-of-le, le-of-suc-le-suc, not-suc-le-zero}
+use native.Mathlib.Nat.{eq-or-lt-of-le, le-of-suc-le-suc}
 use native.Mathlib.Numerals.{add-one}
 use native.Mathlib.Omega.{arith}
-use lib.Dec.{eqb, ltb}
 use lib.ListN.{length, getD, take, drop, set, length-append, length-set, drop-of-length-le}
 use lib.Seq.{drop-cons}
-use borrow.Author.Tests.{eq-eqb, ne-eqb, ltb-true, ltb-false}
-use Rattle.paper.specs.Base.{choose, sameb, any}
-use Rattle.paper.specs.Frames.{member, see, index}
-use Rattle.paper.proofs.Tests.{split, clash, same-refl, ne-same}
+use borrow.Author.Tests.{eq-eqb, ne-eqb}
+use Rattle.paper.specs.Base.{sameb, any}
+use Rattle.paper.specs.Frames.{member, index}
+use Rattle.paper.proofs.Tests.{split, same-refl, ne-same}
 use Rattle.paper.proofs.Names.{same-sym, member-left, member-right, member-one, index-in, index-past, index-lt}
 use Rattle.area.specs.Cells.{name-cell, word, Only}
 use Rattle.area.proofs.Laws.{word-same, word-other, only-none, only-set, only-then}

@@ -1,26 +1,23 @@
 -- One label and one math token: what interning asks of them, and that their stores take what is done one step on.
 -- Assumes nothing.
-use mathlib.Core.Path.{_≡_, refl, sym, ap, _∙_}
-use mathlib.Core.Bool.{Bool, true, false}
-use mathlib.Core.List.{List, [], _∷_, _++_, map, append-nil}
-use Prim.Native.Nat.{ℕ, zero, suc, _+_, _-_, _*_, _<_, _≤_}
+use mathlib.Core.Path.{_≡_, refl, ap, _∙_}
+use mathlib.Core.Bool.{true, false}
+use mathlib.Core.List.{List, [], _∷_, _++_, append-nil}
+use Prim.Native.Nat.{ℕ, _+_, _-_, _*_, _<_, _≤_}
 use native.Mathlib.Omega.{arith}
 use lib.Dec.{eqb}
 use lib.ListN.{length, getD, take, drop, set}
-use Rattle.paper.specs.Base.{choose}
-use Rattle.paper.specs.Tokens.{Token, toks}
-use Rattle.paper.specs.Comments.{outside, visible}
-use Rattle.paper.specs.Statements.{Kind, $c, $v, $d, $f, $e, $a, $p, labelled, Statement}
-use Rattle.paper.specs.Frames.{member, see, sights, index}
+use Rattle.paper.specs.Tokens.{Token}
+use Rattle.paper.specs.Statements.{Kind, $c, $v, $d, $f, $e, $a, $p, labelled}
+use Rattle.paper.specs.Frames.{member, sights}
 use Rattle.paper.specs.Checks.{token}
 use Rattle.paper.proofs.Tests.{split}
 use Rattle.paper.proofs.Names.{see-self, sights-one}
-use Rattle.area.specs.Cells.{statement-cell, name-cell, symbol-cell, math-cell, word}
+use Rattle.area.specs.Cells.{statement-cell, symbol-cell, math-cell, word}
 use Rattle.area.proofs.Laws.{word-other}
 use Rattle.token.specs.Words.{span-from}
 use Rattle.token.specs.declared.cursor.Span.{Span}
-use Rattle.reader.specs.Rows.{stmt, before, kind-number, label-of, Stands}
-use Rattle.nameck.specs.Atoms.{bytes-of}
+use Rattle.reader.specs.Rows.{stmt, kind-number, label-of, Stands}
 use Rattle.nameck.specs.Table.{CanIntern, Interns, noted, globally}
 use Rattle.nameck.specs.Naming.{Done, with-label, with-math, Progress, Ahead, AtToken, SomeToken, TokenNamed, AtLabel, SomeLabel, LabelNamed}
 use Rattle.nameck.proofs.Kept.{math-row}

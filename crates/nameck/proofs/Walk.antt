@@ -1,25 +1,22 @@
 -- The walk over the math tokens of a statement, a whole statement, and all statements.
 -- Assumes nothing.
 use mathlib.Core.Path.{_≡_, refl, sym, ap, _∙_}
-use mathlib.Core.Bool.{Bool, true, false}
 use mathlib.Core.List.{List, [], _∷_, _++_, map, append-assoc, append-nil}
 use Prim.Native.Nat.{ℕ, zero, suc, _+_, _-_, _*_, _<_, _≤_}
 use native.Mathlib.Numerals.{add-one}
 use native.Mathlib.Omega.{arith}
-use lib.Dec.{eqb, leb}
+use lib.Dec.{eqb}
 use lib.ListN.{length, getD, take, drop, length-append, take-append-drop}
 use lib.Seq.{take-suc, drop-cons, take-length, length-take-le}
-use Rattle.paper.specs.Base.{choose, and, gather}
 use Rattle.paper.specs.Tokens.{Token}
-use Rattle.paper.specs.Statements.{Kind, $c, $v, $d, $f, $e, $a, $p, Statement, none-end, outermost}
-use Rattle.paper.specs.Names.{bearer, labels, Declared, declares, declared-by, declarations, declared}
+use Rattle.paper.specs.Statements.{Statement}
+use Rattle.paper.specs.Names.{declares, declared}
 use Rattle.paper.specs.Checks.{token, no-token}
-use Rattle.paper.proofs.Tests.{split}
-use Rattle.paper.proofs.Gather.{map-append, gather-more, gather-parts}
-use Rattle.area.specs.Cells.{statement-cell, math-cell, word}
-use Rattle.reader.specs.Rows.{no-statement, stmt, before, kind-number}
-use Rattle.nameck.specs.Atoms.{bytes-of, names-in}
-use Rattle.nameck.specs.Naming.{Done, before-statement, with-label, declared-as, with-math, Progress, Ahead, AtToken, SomeToken, TokenNamed, AtMath, SomeMath, MathNamed, AtLabel, SomeLabel, LabelNamed, declaring, SomeStatement, StatementNamed}
+use Rattle.paper.proofs.Gather.{map-append}
+use Rattle.area.specs.Cells.{statement-cell, word}
+use Rattle.reader.specs.Rows.{stmt, before}
+use Rattle.nameck.specs.Atoms.{bytes-of}
+use Rattle.nameck.specs.Naming.{Done, declared-as, with-math, Progress, Ahead, AtToken, SomeToken, TokenNamed, AtMath, SomeMath, MathNamed}
 
 -- ---- math tokens after math tokens
 declared-append : (k : ℕ) (l m : List Token) → declared-as k (l ++ m) ≡ declared-as k l ++ declared-as k m

@@ -3,9 +3,8 @@
 use mathlib.Core.Path.{_≡_, refl, sym, ap, _∙_}
 use mathlib.Core.Bool.{Bool, true, false}
 use mathlib.Core.List.{List, [], _∷_, _++_, map, append-assoc}
-use Prim.Native.Nat.{ℕ, zero, suc, _+_, _-_, _*_, _<_, _≤_}
+use Prim.Native.Nat.{ℕ, zero, suc, _+_, _-_, _<_, _≤_}
 use native.Mathlib.Nat.{not-suc-le-zero}
-use native.Mathlib.Numerals.{add-one}
 use native.Mathlib.Omega.{arith}
 use lib.Dec.{eqb, leb, ltb}
 use lib.ListN.{length, getD, take, drop, length-append, List·getD-append}
@@ -18,15 +17,14 @@ use Rattle.paper.specs.Names.{bearer, labels, owner, declared-by, declarations,
 use Rattle.paper.specs.Frames.{sights}
 use Rattle.paper.proofs.Tests.{split}
 use Rattle.paper.proofs.Gather.{map-append, gather-more, gather-parts, gather-upto}
-use Rattle.area.specs.Cells.{statement-cell, name-cell, symbol-cell, math-cell, word}
+use Rattle.area.specs.Cells.{statement-cell, name-cell, symbol-cell, word}
 use Rattle.token.specs.Words.{tokens-from}
 use Rattle.token.proofs.Counts.{tokens-few}
-use Rattle.reader.specs.Rows.{no-statement, stmt, before, kind-number, Shape, Rows}
-use Rattle.facts.specs.Facts.{Facts}
-use Rattle.nameck.specs.Atoms.{bytes-of, names-in, atoms, atom-of, name-of}
+use Rattle.reader.specs.Rows.{no-statement, stmt, before, kind-number}
+use Rattle.nameck.specs.Atoms.{bytes-of, names-in, atoms, name-of}
 use Rattle.nameck.specs.Named.{owner-word, global-word, Named, Fresh}
 use Rattle.nameck.specs.Table.{name-at, names-of}
-use Rattle.nameck.specs.Naming.{Done, before-statement, with-label, declared-as, with-math, Column, owner-by, global-by, Progress, Ahead, AtMath, SomeMath, MathNamed, AtLabel, SomeLabel, LabelNamed, declaring, SomeStatement, StatementNamed, Readable, SomeRead, AllNamed}
+use Rattle.nameck.specs.Naming.{before-statement, with-label, declared-as, with-math, Column, owner-by, global-by, Progress, Ahead, AtMath, SomeMath, MathNamed, AtLabel, SomeLabel, LabelNamed, declaring, SomeStatement, StatementNamed, Readable, SomeRead, AllNamed}
 use Rattle.nameck.proofs.Atoms.{atoms-few}
 use Rattle.nameck.proofs.Search.{names-length}
 use Rattle.nameck.proofs.Progress.{progress-count}

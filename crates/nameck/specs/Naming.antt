@@ -1,7 +1,7 @@
 -- How far naming has come: which labels and math tokens are atoms, and which owners and declarations are noted.
 -- `t` is the text, `w` the words, `n` is N + 1.
 use mathlib.Core.Path.{_≡_}
-use mathlib.Core.Bool.{Bool, true, false}
+use mathlib.Core.Bool.{true, false}
 use mathlib.Core.List.{List, [], _∷_, _++_, map}
 use Prim.Native.Nat.{ℕ, zero, suc, _+_, _-_, _*_, _<_, _≤_}
 use lib.Dec.{eqb, leb}

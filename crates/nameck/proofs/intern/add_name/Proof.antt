@@ -1,5 +1,3 @@
-use mathlib.Core.Path.{_≡_, refl, sym, ap, _∙_}
-use native.Mathlib.Omega.{arith}
 use lib.ListN.{length-set}
 use Rattle.nameck.specs.Table.{with-name}
 use borrow.Author.Needs.{needs}

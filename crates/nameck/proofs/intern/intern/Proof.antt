@@ -1,4 +1,3 @@
-use mathlib.Core.Path.{_≡_, refl, sym, ap, _∙_}
 use native.Mathlib.Omega.{arith}
 use Rattle.nameck.proofs.Search.{found-few, intern-old, intern-new}
 use borrow.Author.Needs.{needs}

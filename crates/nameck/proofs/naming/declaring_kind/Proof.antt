@@ -1,7 +1,5 @@
-use mathlib.Core.Path.{_≡_, refl, sym, ap, _∙_}
 use borrow.Author.Tests.{eq-eqb, ne-eqb, le-leb, lt-leb}
 use Rattle.nameck.specs.Naming.{declaring}
-use borrow.Author.Needs.{needs}
 use Rattle.nameck.proofs.naming.declaring_kind.Statement.{statement}
 use Rattle.nameck.proofs.naming.declaring_kind.Tie as tie
 use Rattle.nameck.proofs.naming.declaring_kind.Reads as reads

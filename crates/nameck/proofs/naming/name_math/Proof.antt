@@ -1,7 +1,5 @@
-use mathlib.Core.Path.{_≡_, refl, sym, ap, _∙_}
-use Prim.Native.Nat.{_-_, _≤_, _+_, _<_}
+use Prim.Native.Nat.{_-_, _≤_}
 use native.Mathlib.Omega.{arith}
-use lib.ListN.{length}
 use Rattle.nameck.proofs.Walk.{InvMath, math-begin, some-at, math-step, math-end, read}
 use borrow.Author.Needs.{needs}
 use Rattle.nameck.proofs.naming.name_math.Statement.{statement}

@@ -1,4 +1,4 @@
-use mathlib.Core.Path.{_≡_, refl, sym, ap, _∙_}
+use mathlib.Core.Path.{refl}
 use native.Mathlib.Omega.{arith}
 use Rattle.nameck.proofs.Whole.{statement-label, statement-order, statement-within, statement-math, statement-named}
 use borrow.Author.Needs.{needs}

@@ -1,6 +1,6 @@
-use mathlib.Core.Path.{_≡_, refl, sym, ap, _∙_}
+use mathlib.Core.Path.{_∙_}
 use borrow.Author.Tests.{eq-eqb, ne-eqb}
-use Rattle.nameck.specs.Table.{noted, globally}
+use Rattle.nameck.specs.Table.{globally}
 use borrow.Author.Needs.{needs}
 use Rattle.nameck.proofs.naming.note_global.Statement.{statement}
 use Rattle.nameck.proofs.naming.note_global.Tie as tie
