@@ -1,1 +1,3 @@
 pub mod Told
+pub mod Found
+pub mod Ones
