@@ -2,9 +2,10 @@
 -- `vs` are the variables of a frame, the mandatory ones first; `d` the names of each `$d`.
 use mathlib.Core.Bool.{Bool, true, false}
 use mathlib.Core.List.{List, [], _∷_, _++_, map}
-use Prim.Native.Nat.{ℕ, zero, suc, _+_}
+use Prim.Native.Nat.{ℕ}
 use lib.Dec.{eqb, ltb}
 use Rattle.paper.specs.Base.{choose, and, any, gather}
+use Rattle.sight.specs.Sums.{sum, one}
 use Rattle.paper.specs.Frames.{index, Pair, pair, pairs-in, same-pair}
 
 -- the pairs of one `$d`
@@ -25,15 +26,6 @@ meets l x y = any (same-pair (pair x y)) l
 -- whether a number is among some
 unfoldable pub has : ℕ → List ℕ → Bool
 has i l = any (eqb i) l
-
--- f 0 + f 1 + ..., n of them
-unfoldable pub sum : (ℕ → ℕ) → ℕ → ℕ
-sum f zero = 0
-sum f (suc n) = sum f n + f n
-
-abbrev pub one : Bool → ℕ
-one true = 1
-one false = 0
 
 -- whether u is below v and the two are a pair of l
 abbrev pub rising : List Pair → ℕ → ℕ → Bool
