@@ -1,3 +1,4 @@
 pub mod Told
 pub mod Found
 pub mod Ones
+pub mod Comments
