@@ -3,6 +3,7 @@
 pub mod put;
 pub mod tokens;
 pub mod visible;
+pub mod walks;
 
 /// What stands against recording a nested `$v` token: a kind and its other, or nothing.
 pub enum Verdict {
