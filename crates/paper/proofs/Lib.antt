@@ -14,3 +14,4 @@ pub mod Readings
 pub mod All
 pub mod Sums
 pub mod Gather
+pub mod Made

@@ -3,3 +3,4 @@ pub mod Numbering
 pub mod Returns
 pub mod Walks
 pub mod Stacks
+pub mod Constants

@@ -4,7 +4,7 @@ ghost use mathlib.Core.Path.{_≡_};
 ghost use Prim.Native.Nat.{_+_, _*_, _<_, _≤_};
 ghost use lib.ListN.{length};
 ghost use Rattle.area.specs.Cells.{symbol-cell, word};
-ghost use Rattle.sight.specs.Numbered.{seen-words, seen-count, SomeHold, CanScan, Scans, CanScanAll, ScansAll, Forgets};
+ghost use Rattle.sight.specs.Numbered.{constant-words, seen-words, seen-count, SomeHold, CanScan, Scans, CanScanAll, ScansAll, Forgets, SomeUnnumbered, Presets};
 
 /// One name, of which `vars` were seen: the number of variables afterwards.
 pub fn see(work: &mut [u32], n: usize, vars: usize, atom: usize) -> usize
@@ -69,5 +69,28 @@ pub fn forget(work: &mut [u32], n: usize, vars: usize)
         let atom = work[area::bucket(n, k)] as usize;
         work[area::symbol(n, atom, area::NUMBER)] = 0;
         k += 1;
+    }
+}
+
+/// Marks the names whose global declaration is a `$c`: they are never numbered.
+pub fn mark_constants(work: &mut [u32], n: usize, names: usize)
+    requires { ⌜ SomeUnnumbered (now work) n names ⌝ }
+    ensures { λ r. ⌜ Presets (now (work .entry)) (now (work .exit)) n names ⌝ }
+{
+    let mut a = 0;
+    while a < names {
+        mark_constant(work, n, a);
+        a += 1;
+    }
+}
+
+/// One such name.
+pub fn mark_constant(work: &mut [u32], n: usize, a: usize)
+    requires { ⌜ (16 * n ≤ length (now work)) × (n ≤ 16777217) × (a < n) ⌝ }
+    ensures { λ r. ⌜ now (work .exit) ≡ constant-words (word (now (work .entry)) (symbol-cell n a 1)) (now (work .entry)) n a ⌝ }
+{
+    let global = work[area::symbol(n, a, area::GLOBAL)];
+    if global % 2 == 1 {
+        work[area::symbol(n, a, area::NUMBER)] = area::NO_END;
     }
 }

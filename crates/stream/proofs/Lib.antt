@@ -8,3 +8,4 @@ pub mod Setting
 pub mod Compare
 pub mod Framing
 pub mod Search
+pub mod Front
