@@ -1,6 +1,7 @@
 pub mod Tests
 pub mod Lists
 pub mod Names
+pub mod Gather
 pub mod Tables
 pub mod Keys
 pub mod Options
