@@ -1,7 +1,6 @@
 pub mod Tests
 pub mod Lists
 pub mod Names
-pub mod Gather
 pub mod Tables
 pub mod Keys
 pub mod Options
