@@ -3,3 +3,5 @@ pub mod Wrote
 pub mod Raised
 pub mod Records
 pub mod Bit
+pub mod Rows
+pub mod Setting
