@@ -3,3 +3,9 @@ pub mod Lists
 pub mod Names
 pub mod Tables
 pub mod Keys
+pub mod Table
+pub mod Bench
+pub mod Slips
+pub mod Edges
+pub mod Lookups
+pub mod Readings
