@@ -2,3 +2,5 @@ pub mod New
 pub mod Count
 pub mod Mandatory
 pub mod Apart
+pub mod Words
+pub mod Marks
