@@ -4,3 +4,4 @@ pub mod Mandatory
 pub mod Apart
 pub mod Words
 pub mod Marks
+pub mod Walks

@@ -129,7 +129,7 @@ module _ {w v : List ℕ} {n c m z : ℕ} (b : Buckets w n z) (h : m ≤ z) (k :
     count-kept : count-of v r ≡ count-of w r
     count-kept = statement-kept r 6 (g .here) (omega arith)
 
-    number-of-kept : (i : ℕ) → number-of v n r i ≡ number-of w n r i
+    pub number-of-kept : (i : ℕ) → number-of v n r i ≡ number-of w n r i
     unfolding number-of
     number-of-kept i = rw (first-kept, number-at-kept (first-of w r + i))
 
