@@ -8,18 +8,57 @@ use native.Mathlib.Omega.{arith}
 use lib.Dec.{eqb, ltb}
 use lib.ListN.{length, getD, take, drop, set, length-set}
 use lib.Seq.{take-length}
+use borrow.Author.Tests.{lt-ltb, le-ltb, le-leb, lt-leb, eq-eqb, ne-eqb}
 use Rattle.paper.specs.Base.{choose, and, or, any, gather}
 use Rattle.paper.specs.Frames.{Pair, pairs-in}
-use Rattle.area.specs.Cells.{statement-cell, bucket-cell, symbol-cell, word}
+use Rattle.area.specs.Cells.{statement-cell, bucket-cell, symbol-cell, math-cell, word}
 use Rattle.area.proofs.Laws.{word-other}
 use Rattle.sight.specs.Static.{stack}
 use Rattle.sight.specs.Sums.{sum, one}
 use Rattle.sight.proofs.Sums.{sum-few}
 use Rattle.disjoint.specs.Found.{has, rising, partners}
-use Rattle.disjoint.specs.Words.{number-at, first-of, count-of, number-of, numbers, listed, TokenNumbered, RowNumbered, Buckets, Stacked, CanWalk, CanCount}
-use Rattle.disjoint.specs.Marks.{mark-cell, mark, tally, Remarked, Marks, CanMark, MarksOne, CanMarkRow, above, CanCountOf, CountsOf, CanCountAll, CountsAll, CanClear, ClearsMarks, PairCount}
+use Rattle.disjoint.specs.Words.{atom-at, number-at, first-of, count-of, number-of, numbers, listed, TokenNumbered, RowNumbered, Buckets, Stacked, CanWalk, CanCount}
+use Rattle.disjoint.specs.Marks.{mark-cell, mark, tally, Remarked, Marks, CanMark, fresh, MarksOne, CanMarkRow, above, CanCountOf, CountsOf, CanCountAll, CountsAll, CanClear, ClearsMarks, PairCount}
 use Rattle.disjoint.proofs.Words.{length-numbers, numbers-at, number-next, listed-more, has-end, has-here, has-next, statement-kept, bucket-kept, cell-kept, buckets-kept, number-of-kept, numbers-kept, row-kept, stacked-kept, listed-kept}
 use Rattle.disjoint.proofs.Marks.{remarked-none, remarked-then, tally-few, marks-none, marks-as, marks-then, marks-one, above-more, rising-row, rising-append, rising-none, turn-count, clear-next, clear-end}
+
+-- ---- one token: its atom, its number, and whether it is marked
+module _ (w : List ℕ) (n t : ℕ) where
+  pub atom-below : {a : ℕ} → a ≡ word w (math-cell n t) → TokenNumbered w n t → a < n
+  unfolding atom-at
+  atom-below e x = rw e (x .atom)
+
+  pub read-number : {a k : ℕ} → a ≡ word w (math-cell n t) → k ≡ word w (symbol-cell n a 5) → k ≡ number-at w n t
+  unfolding number-at atom-at
+  read-number e d = d ∙ ap (λ a. word w (symbol-cell n a 5)) e
+
+  module _ (m u : ℕ) {a k : ℕ} (e : a ≡ word w (math-cell n t)) (d : k ≡ word w (symbol-cell n a 5)) where
+    stays : fresh w n m t u ≡ false → MarksOne w w n m t u 0
+    stays q = record { words = rw q; count = rw q }
+
+    pub one-low : k ≤ u + 1 → MarksOne w w n m t u 0
+    unfolding fresh
+    one-low h = stays (rw (← read-number e d, le-ltb (u + 1) k h))
+
+    pub one-high : u + 1 < k → m < k → MarksOne w w n m t u 0
+    unfolding fresh
+    one-high h l = stays (rw (← read-number e d, lt-ltb (u + 1) k h, lt-leb k m l))
+
+    module _ {x : ℕ} (p : x ≡ word w (symbol-cell n a 6)) (h : u + 1 < k) (l : k ≤ m) where
+      mark-read : word w (symbol-cell n (atom-at w n t) 6) ≡ x
+      unfolding atom-at
+      mark-read = sym (p ∙ ap (λ c. word w (symbol-cell n c 6)) e)
+
+      pub one-old : x ≡ u + 1 → MarksOne w w n m t u 0
+      unfolding fresh
+      one-old q = stays (rw (← read-number e d, lt-ltb (u + 1) k h, le-leb k m l, mark-read, eq-eqb x (u + 1) q))
+
+      pub one-new : {v : List ℕ} → (x ≡ u + 1 → ⊥) → v ≡ set w (symbol-cell n a 6) (u + 1) → MarksOne w v n m t u 1
+      unfolding fresh atom-at
+      one-new q y =
+          let f : fresh w n m t u ≡ true =
+            rw (← read-number e d, lt-ltb (u + 1) k h, le-leb k m l, mark-read, ne-eqb x (u + 1) q) in
+          record { words = rw f (y ∙ ap (λ c. set w (symbol-cell n c 6) (u + 1)) e); count = rw f }
 
 -- ---- the tokens of a row, as they are read
 pub token-here :
