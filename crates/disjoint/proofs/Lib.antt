@@ -5,3 +5,5 @@ pub mod Apart
 pub mod Words
 pub mod Marks
 pub mod Walks
+pub mod Square
+pub mod Drawn
