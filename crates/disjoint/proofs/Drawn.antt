@@ -41,9 +41,6 @@ laid-is l a x z b i e h k =
     rw (e, take-at a (x ++ z) i h, d)
 
 module _ (l a x y d z b c : List ℕ) (i p : ℕ) (e : l ≡ a ++ (x ++ (y ++ (d ++ z)))) (h : length a ≡ i) (j : length x ≡ length b) (k : length a + (length x + length y) ≡ p) (o : length d ≡ length c) where
-  front : List ℕ → List ℕ
-  front t = a ++ (t ++ y)
-
   apart : (t : List ℕ) → a ++ (t ++ (y ++ (d ++ z))) ≡ (a ++ (t ++ y)) ++ (d ++ z)
   apart t = ap (λ u. a ++ u) (sym (append-assoc t y (d ++ z))) ∙ sym (append-assoc a (t ++ y) (d ++ z))
 

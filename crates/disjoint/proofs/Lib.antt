@@ -7,3 +7,4 @@ pub mod Marks
 pub mod Walks
 pub mod Square
 pub mod Drawn
+pub mod Draws
