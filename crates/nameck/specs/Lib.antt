@@ -1,2 +1,3 @@
 pub mod Atoms
 pub mod Named
+pub mod Kept

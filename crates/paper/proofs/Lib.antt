@@ -3,9 +3,15 @@ pub mod Lists
 pub mod Names
 pub mod Tables
 pub mod Keys
+pub mod Options
+pub mod Alls
 pub mod Table
 pub mod Bench
 pub mod Slips
 pub mod Edges
 pub mod Lookups
 pub mod Readings
+pub mod All
+pub mod Sums
+pub mod Gather
+pub mod Made

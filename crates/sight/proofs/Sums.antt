@@ -49,3 +49,8 @@ sum-fewer f (suc n) k h l e =
     (λ q.
     let d : n ≢ k = eqb-ne q in
     omega (arith, sum-fewer f n k (λ i a. h i (omega arith)) (omega (arith, d)) e, h n (omega arith)))
+
+pub sum-zero : (f : ℕ → ℕ) (n : ℕ) → ((i : ℕ) → i < n → f i ≡ 0) → sum f n ≡ 0
+unfolding sum
+sum-zero f zero h = refl
+sum-zero f (suc n) h = omega (arith, sum-zero f n (λ i l. h i (omega arith)), h n (omega arith))

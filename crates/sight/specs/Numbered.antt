@@ -3,7 +3,7 @@
 use mathlib.Core.Path.{_≡_}
 use mathlib.Core.Bool.{Bool, true, false}
 use mathlib.Core.List.{List, [], _∷_}
-use Prim.Native.Nat.{ℕ, _+_, _<_, _≤_}
+use Prim.Native.Nat.{ℕ, _+_, _%_, _<_, _≤_}
 use lib.Dec.{eqb}
 use lib.ListN.{length, getD, drop, set}
 use Rattle.paper.specs.Base.{choose}
@@ -13,7 +13,7 @@ use Rattle.paper.specs.Frames.{member, see, index}
 use Rattle.area.specs.Cells.{bucket-cell, symbol-cell, word}
 use Rattle.reader.specs.Rows.{stmt}
 use Rattle.nameck.specs.Atoms.{atoms, atom-of, name-of}
-use Rattle.nameck.specs.Named.{Named}
+use Rattle.nameck.specs.Named.{Named, Fresh}
 use Rattle.sight.specs.Sums.{sum, one}
 use Rattle.sight.specs.Static.{constant-name, stack}
 
@@ -110,3 +110,23 @@ pub record Forgets (w v : List ℕ) (n k : ℕ) : Type 0 where
   pub kept : Renumbered n w v
   pub sim :
       (t : List ℕ) (l : List Statement) (vs : List (List ℕ)) → Holds t w n l vs k → Holds t v n l [] 0
+
+-- the words once a name with this global word is looked at
+abbrev pub constant-words : ℕ → List ℕ → ℕ → ℕ → List ℕ
+constant-words g w n a = choose (eqb (g % 2) 1) (set w (symbol-cell n a 5) none-end) w
+
+-- ---- the names of constants, once naming is done
+pub record Unnumbered (t w : List ℕ) (n : ℕ) (l : List Statement) (k : ℕ) : Type 0 where
+  pub named : Named t w n l
+  pub fresh : Fresh w n l
+  pub small : n ≤ 16777217
+  pub count : k ≡ length (atoms l)
+
+pub record SomeUnnumbered (w : List ℕ) (n k : ℕ) : Type 0 where
+  pub t : List ℕ
+  pub l : List Statement
+  pub holds : Unnumbered t w n l k
+
+pub record Presets (w v : List ℕ) (n k : ℕ) : Type 0 where
+  pub kept : Renumbered n w v
+  pub sim : (t : List ℕ) (l : List Statement) → Unnumbered t w n l k → Holds t v n l [] 0

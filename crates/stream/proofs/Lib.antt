@@ -5,3 +5,7 @@ pub mod Records
 pub mod Bit
 pub mod Rows
 pub mod Setting
+pub mod Compare
+pub mod Framing
+pub mod Search
+pub mod Front

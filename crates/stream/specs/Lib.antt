@@ -1,3 +1,4 @@
 pub mod Wrote
 pub mod Diagnostic
 pub mod Bits
+pub mod Framing

@@ -2,4 +2,5 @@
 // Every writer answers the place after its bytes, so the same call measures where the lent buffer is empty.
 pub mod bits;
 pub mod record;
+pub mod walk;
 pub mod write;

@@ -7,7 +7,7 @@ use Prim.Native.Nat.{ℕ}
 use Rattle.paper.specs.Tokens.{Token, key}
 use Rattle.paper.specs.Comments.{Place, outside, inside, next, after, shown, visible}
 use Rattle.paper.proofs.Tests.{split}
-use Rattle.theorems.proofs.All.{All, nil, cons, all-append, not-nil}
+use Rattle.paper.proofs.All.{All, nil, cons, all-append, not-nil}
 
 -- ---- V1
 pub after-append : (x y : List Token) (m : Place) → after (x ++ y) m ≡ after y (after x m)
@@ -91,3 +91,9 @@ shown-cut (x ∷ l) (inside o) u t v e =
     split (key 41 x)
     (λ k. hidden {n = outside} (rw k) refl (shown-cut l outside u t v (rw k at e)))
     (λ k. hidden {n = inside o} (rw k) refl (shown-cut l (inside o) u t v (rw k at e)))
+
+pub shown-after : {l : List Token} {m : Place} {u : List Token} {t : Token} {v : List Token} (c : Shown l m u t v) → after l m ≡ after (c .behind) outside
+unfolding after
+shown-after {m = m} {t = t} c =
+    ap (λ (r : List Token). after r m) (c .tokens)
+    ∙ (after-append (c .before) (t ∷ c .behind) m ∙ rw (c .out, c .plain))

@@ -13,7 +13,7 @@ use Rattle.paper.specs.Base.{choose}
 use Rattle.paper.specs.Statements.{Statement, Item, opens, closes, states, top, tail, onto, closers, ended, with-end, ends}
 use Rattle.paper.proofs.Tests.{split}
 use Rattle.theorems.specs.Groups.{first, closer}
-use Rattle.theorems.proofs.All.{All, nil, cons}
+use Rattle.paper.proofs.All.{All, nil, cons}
 use Rattle.theorems.proofs.Reader.{Level, flat, opened, shut-one, stated, item-at, ItemAt}
 
 -- ---- E1

@@ -1,5 +1,15 @@
-pub mod All
 pub mod Tokens
 pub mod Comments
 pub mod Reader
 pub mod Ends
+pub mod Parts
+pub mod Whole
+pub mod Fold
+pub mod Streams
+pub mod Offsets
+pub mod Weights
+pub mod Pairs
+pub mod Lengths
+pub mod Refusals
+pub mod Records
+pub mod Demand3

@@ -14,7 +14,8 @@ use Rattle.paper.specs.Tokens.{Token, label-token, math-token, key}
 use Rattle.paper.specs.Statements.{Kind, $c, $v, $d, $f, $e, $a, $p, Statement, Item, opens, closes, states}
 use Rattle.paper.specs.Reader.{Mode, start, named, math, proof, plain-kind, label-kind, room, least, closing, Step, go, stop, shut, begin, keyword, closed, allow, with-items, many}
 use Rattle.paper.proofs.Tests.{split}
-use Rattle.theorems.proofs.All.{All, nil, cons, all-append, not-nil}
+use Rattle.paper.proofs.Sums.{total, total-append}
+use Rattle.paper.proofs.All.{All, nil, cons, all-append, not-nil}
 
 -- ---- what one allowed token does
 -- the offset of the statement in hand, or z where there is none
@@ -24,15 +25,12 @@ mode-at (named t) z = t .at
 mode-at (math k o n m) z = o
 mode-at (proof o n m p) z = o
 
--- so much room have some tokens taken, with a byte of white space for each
-unfoldable pub weight : List Token → ℕ
-weight [] = 0
-weight (t ∷ l) = suc (length (t .bytes)) + weight l
+-- the room that tokens take, with a byte of white space for each
+abbrev pub token-weight : Token → ℕ
+token-weight t = suc (length (t .bytes))
 
-pub weight-append : (l m : List Token) → weight (l ++ m) ≡ weight l + weight m
-unfolding weight
-weight-append [] m = omega arith
-weight-append (t ∷ l) m = omega (arith, weight-append l m)
+abbrev pub weight : List Token → ℕ
+weight l = total token-weight l
 
 abbrev pub mode-weight : Mode → ℕ
 mode-weight start = 0
@@ -67,7 +65,7 @@ module _ {t : Token} {n : Mode} {e : ℕ} {j : List Item} where
   shut-gives (suc d) k h = same (closing-one refl k refl) h
 
   begin-gives : (k : Option Kind) (d : ℕ) → begin k d t ≡ go n e j → Gives start d t n e j
-  unfolding weight
+  unfolding total
   begin-gives (some k) d h = same (quiet {n = math k (t .at) [] []} refl (omega arith)) h
   begin-gives none d h =
       split (label-token t)
@@ -75,7 +73,7 @@ module _ {t : Token} {n : Mode} {e : ℕ} {j : List Item} where
       (λ l. never {o = t .at} (rw l at h))
 
   keyword-gives : (k : Option Kind) (d : ℕ) (s : Token) → keyword k d s t ≡ go n e j → Gives (named s) d t n e j
-  unfolding weight
+  unfolding total
   keyword-gives (some k) d s h = same (quiet {n = math k (s .at) (s .bytes) []} refl (omega arith)) h
   keyword-gives none d s h = never h
 
@@ -89,7 +87,7 @@ module _ {t : Token} {n : Mode} {e : ℕ} {j : List Item} where
   closed-gives $p d o l m h = same (quiet {n = proof o l m []} refl (omega arith)) h
 
   pub allow-gives : (m : Mode) (d : ℕ) → allow m d t ≡ go n e j → Gives m d t n e j
-  unfolding allow weight
+  unfolding allow total
   allow-gives start d h =
       split (key 123 t)
       (λ k. same (opening refl k) (rw k at h))
@@ -99,7 +97,7 @@ module _ {t : Token} {n : Mode} {e : ℕ} {j : List Item} where
   allow-gives (named s) d h = keyword-gives (label-kind t) d s h
   allow-gives (math k o l m) d h =
       split (and (math-token t) (room k (length m)))
-      (λ a. same (quiet {n = math k o l (m ++ (t ∷ []))} refl (omega (arith, weight-append m (t ∷ [])))) (rw a at h))
+      (λ a. same (quiet {n = math k o l (m ++ (t ∷ []))} refl (omega (arith, total-append token-weight m (t ∷ [])))) (rw a at h))
       (λ a. split (and (key (closing k) t) (leb (least k) (length m)))
       (λ c. closed-gives k d o l m (rw (a, c) at h))
       (λ c. never {o = t .at} (rw (a, c) at h)))
@@ -228,32 +226,26 @@ module _ (P : ℕ → Type 0) where
       all-append (items-step g p k) (reads-at r a (hand-step g p k))
 
 -- ---- how much room the statements take
-unfoldable pub item-weight : Item → ℕ
+abbrev pub item-weight : Item → ℕ
 item-weight (opens p) = 0
 item-weight (closes q) = 0
 item-weight (states s) = statement-weight s
 
-unfoldable pub items-weight : List Item → ℕ
-items-weight [] = 0
-items-weight (x ∷ i) = item-weight x + items-weight i
-
-items-weight-append : (i j : List Item) → items-weight (i ++ j) ≡ items-weight i + items-weight j
-unfolding items-weight
-items-weight-append [] j = omega arith
-items-weight-append (x ∷ i) j = omega (arith, items-weight-append i j)
+abbrev pub items-weight : List Item → ℕ
+items-weight i = total item-weight i
 
 weight-step : {m n : Mode} {d e : ℕ} {t : Token} {j : List Item} → Gives m d t n e j → items-weight j + mode-weight n ≤ mode-weight m + suc (length (t .bytes))
-unfolding items-weight item-weight
+unfolding total
 weight-step (quiet a b) = omega arith
 weight-step (opening a b) = omega arith
 weight-step (closing-one a b c) = omega arith
 weight-step (stating a b) = omega arith
 
 pub reads-weight : {u : List Token} {m n : Mode} {d e : ℕ} {i : List Item} → Reads u m d i n e → items-weight i + mode-weight n ≤ mode-weight m + weight u
-unfolding items-weight weight
+unfolding total
 reads-weight done = omega arith
 reads-weight (step {m = m} {d = d} {j = j} {i = i} h r) =
-    omega (arith, items-weight-append j i, weight-step (allow-gives m d h), reads-weight r)
+    omega (arith, total-append item-weight j i, weight-step (allow-gives m d h), reads-weight r)
 
 -- ---- R2, R5: cut at a `${` or `$}`, which is read between statements only
 pub record Cut (u : List Token) (m : Mode) (d : ℕ) (x : List Item) (z : Item) (y : List Item) (n : Mode) (e : ℕ) : Type 0 where

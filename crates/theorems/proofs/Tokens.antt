@@ -13,7 +13,7 @@ use Rattle.paper.specs.Answer.{laid}
 use Rattle.paper.specs.Tokens.{Token, Run, put, prefix, run, toks}
 use Rattle.paper.proofs.Tests.{split}
 use Rattle.theorems.specs.Groups.{blanked}
-use Rattle.theorems.proofs.All.{All, nil, cons, all-map, not-nil}
+use Rattle.paper.proofs.All.{All, nil, cons, all-map, not-nil}
 
 -- ---- T1, T2: cut at white space
 put-append : (o : ℕ) (h : List ℕ) (x y : List Token) → put o h (x ++ y) ≡ put o h x ++ y
