@@ -3,20 +3,20 @@
 use mathlib.Core.Path.{_≡_, refl, sym, ap, _∙_}
 use mathlib.Core.Bool.{Bool, true, false}
 use mathlib.Core.List.{List, [], _∷_, _++_, map, append-assoc}
-use Prim.Native.Nat.{ℕ, zero, suc, _+_, _-_, _*_, _/_, _<_, _≤_, _^_}
+use Prim.Native.Nat.{ℕ, _+_, _-_, _*_, _/_, _<_, _≤_, _^_}
 use native.Mathlib.Nat.{mul-le-mul-right}
 use native.Mathlib.Numerals.{add-one}
 use native.Mathlib.Omega.{arith}
 use lib.Dec.{ltb}
-use lib.ListN.{length, getD, drop, length-append, drop-of-length-le, List·getD-append}
-use lib.Seq.{drop-cons, getD-at}
-use borrow.Author.Tests.{lt-ltb, le-ltb, ltb-true, ltb-false}
+use lib.ListN.{length, getD, drop, drop-of-length-le}
+use lib.Seq.{drop-cons}
+use borrow.Author.Tests.{lt-ltb, le-ltb}
 use Rattle.paper.specs.Base.{and, gather}
 use Rattle.paper.specs.Frames.{Pair, pair, pairs-in}
 use Rattle.paper.specs.Records.{u16}
-use Rattle.paper.proofs.Tests.{split}
 use Rattle.area.specs.Cells.{statement-cell, word}
 use Rattle.sight.specs.Static.{stack}
+use Rattle.sight.proofs.Stacks.{stack-length, stack-at}
 use Rattle.stream.specs.Bits.{bit-at, with-bit}
 use Rattle.stream.specs.Wrote.{Wrote}
 use Rattle.stream.proofs.Setting.{length-with}
@@ -180,23 +180,6 @@ module _ {w b₀ b : List ℕ} {n row : ℕ} {g : Grid} {p q i k : ℕ} (h : Inv
       drew-as [] (h .drew) (ap pairs-in (drop-of-length-le (numbers w n row) {i = i} (omega (arith, c, length-numbers w n row))))
 
 -- ---- the pairs of the rows on the stack
-pub length-stack : (w : List ℕ) (c d : ℕ) → length (stack w c d) ≡ d
-unfolding stack
-length-stack w c zero = refl
-length-stack w c (suc d) = omega (arith, length-append (stack w c d) (word w (statement-cell d c) ∷ []), length-stack w c d)
-
-pub stack-at : (w : List ℕ) (c d k : ℕ) → k < d → getD (stack w c d) k 0 ≡ word w (statement-cell k c)
-unfolding stack
-stack-at w c zero k h = absurd (omega arith)
-stack-at w c (suc d) k h =
-    split (ltb k d)
-    (λ e.
-      let m : k < d = ltb-true k d e in
-      List·getD-append (stack w c d) (word w (statement-cell d c) ∷ []) 0 k (omega (arith, length-stack w c d)) ∙ stack-at w c d k m)
-    (λ e.
-      let m : d ≡ k = omega (arith, ltb-false k d e) in
-      getD-at (stack w c d) (word w (statement-cell d c)) [] 0 k (length-stack w c d ∙ m) ∙ ap (λ i. word w (statement-cell i c)) m)
-
 -- the rows from the k-th on
 unfoldable pub listed-from : List ℕ → ℕ → ℕ → ℕ → List Pair
 listed-from w n d k = gather (λ r. pairs-in (numbers w n r)) (drop k (stack w 11 d))
@@ -211,7 +194,7 @@ all-drawn-begin w b n d g p = record { drew = drew-none b g p (listed w n d) }
 module _ {w b₀ b : List ℕ} {n d : ℕ} {g : Grid} {p q k : ℕ} (h : InvAllDrawn w b₀ b n d g p q k) where
   rows-next : {r : ℕ} → k < d → r ≡ word w (statement-cell k 11) → listed-from w n d k ≡ pairs-in (numbers w n r) ++ listed-from w n d (k + 1)
   unfolding listed-from gather
-  rows-next l e = rw (drop-cons (stack w 11 d) k 0 (omega (arith, length-stack w 11 d)), stack-at w 11 d k l, e, add-one k)
+  rows-next l e = rw (drop-cons (stack w 11 d) k 0 (omega (arith, stack-length w 11 d)), stack-at w 11 d k l, e, add-one k)
 
   pub all-drawn-can : {r : ℕ} → CanDrawAll w b₀ n d g p → k < d → r ≡ word w (statement-cell k 11) → CanDrawRow w b n r g q
   all-drawn-can {r} a l e =
@@ -235,4 +218,4 @@ module _ {w b₀ b : List ℕ} {n d : ℕ} {g : Grid} {p q k : ℕ} (h : InvAllD
   unfolding listed-from gather
   all-drawn-end l =
       drew-as [] (h .drew)
-      (ap (gather (λ r. pairs-in (numbers w n r))) (drop-of-length-le (stack w 11 d) {i = k} (omega (arith, length-stack w 11 d))))
+      (ap (gather (λ r. pairs-in (numbers w n r))) (drop-of-length-le (stack w 11 d) {i = k} (omega (arith, stack-length w 11 d))))

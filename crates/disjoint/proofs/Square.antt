@@ -16,13 +16,13 @@ use Rattle.paper.specs.Records.{pair-bytes, u16}
 use Rattle.paper.proofs.Tests.{split, clash, eqb-ne}
 use Rattle.paper.proofs.Lists.{keep-append}
 use Rattle.paper.proofs.Tables.{length-table, getD-table, set-table}
+use Rattle.paper.proofs.Made.{table-same}
 use Rattle.stream.proofs.Records.{length-u16}
 use Rattle.stream.proofs.Rows.{Wide, lit-up}
 use Rattle.disjoint.specs.Found.{both, meets}
 use Rattle.disjoint.specs.Drawn.{once, bit-of, square-of, square}
 use Rattle.disjoint.proofs.New.{any-same, new-last, same-straight, same-crossed}
 use Rattle.disjoint.proofs.Count.{meets-last}
-use Rattle.disjoint.proofs.Words.{table-same}
 
 -- ---- rows made by a rule
 pub length-square : (s : List Pair) (v : ℕ) → length (square s v) ≡ v

@@ -3,7 +3,7 @@
 use mathlib.Core.Path.{_≡_, refl, sym, ap, _∙_}
 use mathlib.Core.Logic.{_≢_}
 use mathlib.Core.Bool.{Bool, true, false}
-use mathlib.Core.List.{List, [], _∷_, _++_}
+use mathlib.Core.List.{List, [], _∷_, _++_, append-nil}
 use Prim.Native.Nat.{ℕ, zero, suc, _+_, _-_, _*_, _<_, _≤_}
 use native.Mathlib.Numerals.{add-one}
 use native.Mathlib.Omega.{arith}
@@ -16,6 +16,7 @@ use Rattle.paper.specs.Frames.{Pair, pairs-in}
 use Rattle.paper.proofs.Lists.{gather-append}
 use Rattle.paper.proofs.Names.{any-append}
 use Rattle.paper.proofs.Tables.{length-table, getD-table}
+use Rattle.paper.proofs.Made.{table-same}
 use Rattle.area.specs.Cells.{statement-cell, bucket-cell, symbol-cell, math-cell, word}
 use Rattle.sight.specs.Static.{stack}
 use Rattle.slots.specs.Kept.{Room}
@@ -23,12 +24,7 @@ use Rattle.disjoint.specs.Found.{has}
 use Rattle.disjoint.specs.Words.{atom-at, number-at, first-of, count-of, number-of, numbers, listed, TokenNumbered, RowNumbered, Buckets, Stacked}
 use Rattle.disjoint.specs.Marks.{mark-cell, mark, Remarked}
 
--- ---- tables and numbers
-pub table-same : {A : Type 0} (f g : ℕ → A) (n : ℕ) → ((i : ℕ) → i < n → f i ≡ g i) → table f n ≡ table g n
-unfolding table
-table-same f g zero h = refl
-table-same f g (suc n) h = rw (table-same f g n (λ i l. h i (omega arith)), h n (omega arith))
-
+-- ---- the numbers of a row
 pub length-numbers : (w : List ℕ) (n r : ℕ) → length (numbers w n r) ≡ count-of w r
 unfolding numbers
 length-numbers w n r = length-table (number-of w n r) (count-of w r)
@@ -47,11 +43,7 @@ unfolding listed stack gather
 listed-more w n d =
     rw add-one
     (gather-append (λ r. pairs-in (numbers w n r)) (stack w 11 d) (word w (statement-cell d 11) ∷ [])
-    ∙ ap (λ p. gather (λ r. pairs-in (numbers w n r)) (stack w 11 d) ++ p) (append-none (pairs-in (numbers w n (word w (statement-cell d 11))))))
-  where
-    append-none : (l : List Pair) → l ++ [] ≡ l
-    append-none [] = refl
-    append-none (x ∷ l) = ap (λ r. x ∷ r) (append-none l)
+    ∙ ap (λ p. gather (λ r. pairs-in (numbers w n r)) (stack w 11 d) ++ p) (append-nil (pairs-in (numbers w n (word w (statement-cell d 11))))))
 
 -- ---- a number looked for, from the i-th on
 module _ (u : ℕ) (l : List ℕ) (i : ℕ) where
