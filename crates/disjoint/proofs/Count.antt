@@ -15,16 +15,8 @@ use Rattle.paper.proofs.Tests.{split, clash, eqb-ne}
 use Rattle.paper.proofs.Names.{any-append}
 use Rattle.sight.specs.Sums.{sum, one}
 use Rattle.sight.proofs.Sums.{sum-same, sum-one}
-use Rattle.disjoint.specs.Found.{both, meets, rising, partners}
+use Rattle.disjoint.specs.Found.{both, proper, meets, rising, partners, count}
 use Rattle.disjoint.proofs.New.{both-ways, same-cases, same-straight, same-crossed, any-same, any-again}
-
--- ---- the pairs below m, counted
-unfoldable pub count : List Pair → ℕ → ℕ
-count l m = sum (partners l m) m
-
--- two numbers that differ, both below m
-abbrev pub proper : ℕ → Pair → Bool
-proper m x = and (both m x) (not (eqb (x .left) (x .right)))
 
 -- the same test at each pair: the same count
 count-same :
@@ -32,7 +24,7 @@ count-same :
 unfolding count partners
 count-same l k m h = sum-same _ _ m (λ u a. sum-same _ _ m (λ v b. ap (λ t. one (and (ltb u v) t)) (h u v)))
 
-meets-last : (l : List Pair) (x : Pair) (u v : ℕ) → meets (l ++ (x ∷ [])) u v ≡ or (meets l u v) (same-pair (pair u v) x)
+pub meets-last : (l : List Pair) (x : Pair) (u v : ℕ) → meets (l ++ (x ∷ [])) u v ≡ or (meets l u v) (same-pair (pair u v) x)
 unfolding meets any
 meets-last l x u v =
     any-append (same-pair (pair u v)) l (x ∷ [])

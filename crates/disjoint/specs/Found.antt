@@ -4,7 +4,7 @@ use mathlib.Core.Bool.{Bool, true, false}
 use mathlib.Core.List.{List, [], _∷_, _++_, map}
 use Prim.Native.Nat.{ℕ}
 use lib.Dec.{eqb, ltb}
-use Rattle.paper.specs.Base.{choose, and, any, gather}
+use Rattle.paper.specs.Base.{choose, and, not, any, gather}
 use Rattle.sight.specs.Sums.{sum, one}
 use Rattle.paper.specs.Frames.{index, Pair, pair, pairs-in, same-pair}
 
@@ -18,6 +18,10 @@ found vs d = gather (found-in vs) d
 -- whether both are below m
 abbrev pub both : ℕ → Pair → Bool
 both m p = and (ltb (p .left) m) (ltb (p .right) m)
+
+-- two numbers that differ, both below m
+abbrev pub proper : ℕ → Pair → Bool
+proper m x = and (both m x) (not (eqb (x .left) (x .right)))
 
 -- whether a pair is among some pairs, in either orientation
 unfoldable pub meets : List Pair → ℕ → ℕ → Bool
@@ -34,3 +38,7 @@ rising l u v = and (ltb u v) (meets l u v)
 -- how many numbers v below m are above u and a pair with it
 unfoldable pub partners : List Pair → ℕ → ℕ → ℕ
 partners l m u = sum (λ v. one (rising l u v)) m
+
+-- the pairs below m, counted
+unfoldable pub count : List Pair → ℕ → ℕ
+count l m = sum (partners l m) m
