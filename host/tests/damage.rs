@@ -34,7 +34,7 @@ fn assert_sound(text: &[u8]) -> u32 {
     let offset = |at: &usize| number_at(&r.frames, at + 6, 4);
     let frames = records(&r.frames, 1..=3);
     assert!(frames.windows(2).all(|w| offset(&w[0]) < offset(&w[1])), "{name}: frames in text order");
-    assert!(frames.last().is_none_or(|at| offset(at) < text.len()), "{name}");
+    assert!(frames.iter().all(|at| offset(at) < text.len()), "{name}");
     let statement = |at: &usize| number_at(&r.diags, at + 6, 4);
     let diags = records(&r.diags, 1..=13);
     assert!(diags.windows(2).all(|w| statement(&w[0]) <= statement(&w[1])), "{name}: diagnostics in text order");
