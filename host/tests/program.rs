@@ -18,7 +18,10 @@ fn program() -> Option<PathBuf> {
     if path.exists() {
         return Some(path);
     }
-    println!("skipped: target/bin/janorembe is not there (rt check janorembe builds it)");
+    // Not by `println!`, which the test harness keeps to itself when a test passes.
+    let test = std::thread::current().name().unwrap_or("a test").to_owned();
+    let _ =
+        writeln!(std::io::stderr(), "SKIPPED {test}: target/bin/janorembe is not there (rt check janorembe builds it)");
     None
 }
 
