@@ -72,8 +72,7 @@ pub fn check(text: &[u8], work: &mut [u32], frames: &mut [u8], diags: &mut [u8])
 pub fn lookup(frames: &[u8], label: &[u8]) -> Found {
     let mut place = 0u64;
     // SAFETY: the library reads the two slices within their lengths, writes `place`, and keeps no pointer.
-    let number =
-        unsafe { janorembe_lookup(frames.as_ptr(), frames.len(), label.as_ptr(), label.len(), &mut place) };
+    let number = unsafe { janorembe_lookup(frames.as_ptr(), frames.len(), label.as_ptr(), label.len(), &mut place) };
     Found { number, place }
 }
 

@@ -56,7 +56,10 @@ fn time(path: &str, rounds: usize) {
         }
         best = [best[0].min(touched), best[1].min(untouched), best[2].min(clearing)];
     }
-    println!("touched {:.3} untouched {:.3} clearing {:.3} words {words} frames {frames_length}", best[0], best[1], best[2]);
+    println!(
+        "touched {:.3} untouched {:.3} clearing {:.3} words {words} frames {frames_length}",
+        best[0], best[1], best[2]
+    );
 }
 
 fn main() {
