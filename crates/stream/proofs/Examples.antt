@@ -12,7 +12,6 @@ use Rattle.paper.specs.declared.Found.the-variants.{At, Malformed, Missing}
 use Rattle.stream.specs.Framing.{label-from, label-by, label-in, framing}
 use Rattle.stream.specs.Fields.{label-at, kind-at, counts-at, variables-at, mandatory-at, hypotheses-at, after-strings}
 use Rattle.stream.specs.Facts.{facts-at}
-use Rattle.stream.specs.declared.view.Facts.{Facts}
 use Rattle.stream.specs.declared.field.Asked.the-variants.{Number, Nothing}
 
 abbrev assertion : Full

@@ -1,8 +1,7 @@
 -- What is asked of a record, as the code finds it: where V and M stand, and what follows a number of strings.
 -- For the functions that answer it.
-use mathlib.Core.Path.{_≡_, refl, sym, ap, _∙_}
-use mathlib.Core.Bool.{Bool, true, false}
-use mathlib.Core.List.{List, []}
+use mathlib.Core.Path.{_≡_, refl, sym}
+use mathlib.Core.List.{List}
 use Prim.Native.Nat.{ℕ, zero, suc, _+_, _-_, _<_, _≤_}
 use native.Mathlib.Nat.{not-suc-le-zero}
 use native.Mathlib.Omega.{arith}
@@ -13,21 +12,15 @@ use Rattle.paper.specs.Base.{choose}
 use Rattle.paper.specs.Lookup.{u32-at}
 use Rattle.stream.specs.Framing.{framing}
 use Rattle.stream.specs.Fields.{counts-in, counts-at, after-strings}
-use Rattle.stream.specs.declared.walk.Record.{Record}
 use Rattle.stream.specs.declared.walk.Framing.{Framing}
 use Rattle.stream.specs.declared.walk.Framing.the-variants.{Well, Badly}
 use Rattle.stream.specs.declared.field.Part.{Part}
 use Rattle.stream.specs.declared.field.Part.the-variants.{From, NoPart}
-use Rattle.stream.proofs.Search.{Stands, stands}
+use Rattle.stream.proofs.Past.{past}
+use Rattle.stream.proofs.Search.{stands}
 
--- a part that is not missing passed the test before it
-pub record Passed (t : Bool) (x : Part) (p e : ℕ) : Type 0 where
-  pub test : t ≡ false
-  pub rest : x ≡ From p e
-
-passed : (t : Bool) (x : Part) (p e : ℕ) → choose t NoPart x ≡ From p e → Passed t x p e
-passed true x p e q = let z : _≡_ {A = ℕ} 0 1 = cc in absurd (omega arith)
-passed false x p e q = record { test = refl; rest = q }
+not-from : (p e : ℕ) → NoPart ≡ From p e → ⊥
+not-from p e q = let z : _≡_ {A = ℕ} 0 1 = cc in omega arith
 
 -- ---- V and M stand within the record
 pub record Counted (l : List ℕ) (p e : ℕ) : Type 0 where
@@ -37,8 +30,8 @@ pub record Counted (l : List ℕ) (p e : ℕ) : Type 0 where
 counted-in : (l : List ℕ) (at : ℕ) (x : Framing) (p e : ℕ) → framing l at ≡ x → counts-in x ≡ From p e → Counted l p e
 counted-in l at Badly p e f q = let z : _≡_ {A = ℕ} 0 1 = cc in absurd (omega arith)
 counted-in l at (Well r) p e f q =
-    let a = passed (eqb (r .kind) 1) _ p e q in
-    let b = passed (ltb (r .after) (r .stop + 4)) _ p e (a .rest) in
+    let a = past (eqb (r .kind) 1) _ _ _ (not-from p e) q in
+    let b = past (ltb (r .after) (r .stop + 4)) _ _ _ (not-from p e) (a .rest) in
     let s : r .stop ≡ p = cc in
     let t : r .after ≡ e = cc in
     record {
@@ -87,6 +80,6 @@ strings-end l e zero p q f h z =
     let b : e ≡ f = cc in
     record { end = sym b; within = omega arith }
 strings-end l e (suc n) p q f h z =
-    let a = passed (ltb e (p + 4)) _ q f z in
-    let b = passed (ltb e ((p + 4) + u32-at l p)) _ q f (a .rest) in
+    let a = past (ltb e (p + 4)) _ _ _ (not-from q f) z in
+    let b = past (ltb e ((p + 4) + u32-at l p)) _ _ _ (not-from q f) (a .rest) in
     strings-end l e n ((p + 4) + u32-at l p) q f (ltb-false e ((p + 4) + u32-at l p) (b .test)) (b .rest)

@@ -6,6 +6,7 @@ pub mod Bit
 pub mod Rows
 pub mod Setting
 pub mod Compare
+pub mod Past
 pub mod Framing
 pub mod Search
 pub mod Front

@@ -1,10 +1,9 @@
-use mathlib.Core.Path.{_≡_, sym, ap, _∙_}
+use mathlib.Core.Path.{sym, _∙_}
 use Prim.Native.Nat.{_+_}
 use native.Mathlib.Omega.{arith}
 use borrow.Author.Tests.{lt-ltb, le-ltb}
 use Rattle.paper.specs.Lookup.{u16-at}
 use Rattle.stream.specs.Fields.{after-strings, hypotheses-at}
-use Rattle.stream.specs.declared.field.Part.the-variants.{From}
 use Rattle.stream.proofs.Fields.{Counted, counted, Ended, strings-end}
 use borrow.Author.Needs.{needs}
 use Rattle.stream.proofs.field.hypotheses_at.Statement.{statement}
@@ -16,7 +15,6 @@ use Rattle.stream.proofs.field.counts_at.Reads as counts-at-reads
 use Rattle.stream.proofs.walk.u16_at.Reads as u16-at-reads
 use Rattle.stream.proofs.walk.u32_at.Reads as u32-at-reads
 
--- own --
 -- V and M stand within the record, and what follows the strings too
 held : (c : tie.After-known-told) → Counted (c .before .before .before .before .before .args .bytes .now) (c .before .p .given .0 .0) (c .before .p .given .0 .1 .0)
 held c = counted _ _ _ _ (sym (c .before .before .before .counts-at .ensures) ∙ c .before .p .given .1)
@@ -25,8 +23,6 @@ left : (c : tie.After-known-told2) → Ended (c .before .before .before .before 
 left c =
     let h = held (c .before .before .before .before .before) in
     strings-end _ _ _ _ _ _ (h .room) (sym (c .before .before .before .after-strings .ensures) ∙ c .before .q .given .1)
-
--- end own --
 
 counts-at-requires : tie.Need-counts-at-requires
 counts-at-requires c κs = search needs

@@ -1,6 +1,5 @@
-use mathlib.Core.Path.{_≡_, refl, sym, _∙_}
+use mathlib.Core.Path.{sym, _∙_}
 use native.Mathlib.Omega.{arith}
-use lib.ListN.{length-take}
 use Rattle.stream.specs.Fields.{label-at}
 use Rattle.stream.proofs.Search.{Stands, stands}
 use borrow.Author.Needs.{needs}
@@ -10,12 +9,9 @@ use Rattle.stream.proofs.field.label_at.Reads as reads
 use Rattle.stream.proofs.field.label_at.Lts as lts
 use Rattle.stream.proofs.walk.record_at.Reads as record-at-reads
 
--- own --
 -- the record that stands there
 stood : (c : tie.After-known-told) → Stands (c .before .before .before .before .before .args .bytes .now) (c .before .before .before .before .before .args .at) (c .before .r .given .0 .0)
 stood c = stands _ _ _ (sym (c .before .before .before .record-at .ensures) ∙ c .before .r .given .1)
-
--- end own --
 
 record-at-requires : tie.Need-record-at-requires
 record-at-requires c κs = search needs
