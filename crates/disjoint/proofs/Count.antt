@@ -13,42 +13,10 @@ use Rattle.paper.specs.Base.{choose, and, or, not, any, all}
 use Rattle.paper.specs.Frames.{Pair, pair, same-pair, new-pair, new-pairs}
 use Rattle.paper.proofs.Tests.{split, clash, eqb-ne}
 use Rattle.paper.proofs.Names.{any-append}
-use Rattle.disjoint.specs.Found.{both, meets, sum, one, rising, partners}
+use Rattle.sight.specs.Sums.{sum, one}
+use Rattle.sight.proofs.Sums.{sum-same, sum-one}
+use Rattle.disjoint.specs.Found.{both, proper, meets, rising, partners, count}
 use Rattle.disjoint.proofs.New.{both-ways, same-cases, same-straight, same-crossed, any-same, any-again}
-
--- ---- sums
-pub sum-same : (f g : ℕ → ℕ) (n : ℕ) → ((i : ℕ) → i < n → f i ≡ g i) → sum f n ≡ sum g n
-unfolding sum
-sum-same f g zero h = refl
-sum-same f g (suc n) h =
-    let a : sum f n ≡ sum g n = sum-same f g n (λ i l. h i (omega arith)) in
-    let b : f n ≡ g n = h n (omega arith) in
-    omega (arith, a, b)
-
-pub sum-one :
-    (f g : ℕ → ℕ) (n k : ℕ) → k < n → g k ≡ f k + 1 → ((i : ℕ) → i < n → i ≢ k → g i ≡ f i) → sum g n ≡ sum f n + 1
-unfolding sum
-sum-one f g zero k l e h = absurd (omega arith)
-sum-one f g (suc n) k l e h =
-    split (eqb n k)
-    (λ q.
-    let d : n ≡ k = eqb-true n k q in
-    let a : sum g n ≡ sum f n = sum-same g f n (λ i b. h i (omega arith) (λ c. omega (arith, c, d))) in
-    let b : g n ≡ f n + 1 = ap g d ∙ e ∙ ap (λ j. f j + 1) (sym d) in
-    omega (arith, a, b))
-    (λ q.
-    let d : n ≢ k = eqb-ne q in
-    let a : sum g n ≡ sum f n + 1 = sum-one f g n k (omega (arith, d)) e (λ i b c. h i (omega arith) c) in
-    let b : g n ≡ f n = h n (omega arith) d in
-    omega (arith, a, b))
-
--- ---- the pairs below m, counted
-unfoldable pub count : List Pair → ℕ → ℕ
-count l m = sum (partners l m) m
-
--- two numbers that differ, both below m
-abbrev pub proper : ℕ → Pair → Bool
-proper m x = and (both m x) (not (eqb (x .left) (x .right)))
 
 -- the same test at each pair: the same count
 count-same :
@@ -56,7 +24,7 @@ count-same :
 unfolding count partners
 count-same l k m h = sum-same _ _ m (λ u a. sum-same _ _ m (λ v b. ap (λ t. one (and (ltb u v) t)) (h u v)))
 
-meets-last : (l : List Pair) (x : Pair) (u v : ℕ) → meets (l ++ (x ∷ [])) u v ≡ or (meets l u v) (same-pair (pair u v) x)
+pub meets-last : (l : List Pair) (x : Pair) (u v : ℕ) → meets (l ++ (x ∷ [])) u v ≡ or (meets l u v) (same-pair (pair u v) x)
 unfolding meets any
 meets-last l x u v =
     any-append (same-pair (pair u v)) l (x ∷ [])

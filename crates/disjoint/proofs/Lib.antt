@@ -2,3 +2,9 @@ pub mod New
 pub mod Count
 pub mod Mandatory
 pub mod Apart
+pub mod Words
+pub mod Marks
+pub mod Walks
+pub mod Square
+pub mod Drawn
+pub mod Draws

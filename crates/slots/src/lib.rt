@@ -2,6 +2,8 @@
 // Every function here promises an equation over the words of the work area; the laws say what the words stand for.
 pub mod cells;
 pub mod look;
+pub mod mark;
+pub mod stack;
 
 /// What a slot holds, or nothing.
 pub enum Slot {
