@@ -8,3 +8,4 @@ pub mod Walks
 pub mod Square
 pub mod Drawn
 pub mod Draws
+pub mod Refined

@@ -133,7 +133,6 @@ module _ {w v : List ℕ} {n c m z : ℕ} (b : Buckets w n z) (h : m ≤ z) (k :
     row-kept =
         record {
           here = g .here;
-          within = rw (first-kept, count-kept) (g .within);
           token = λ i l. rw first-kept (token-kept (first-of w r + i) (g .token i (rw count-kept at l)));
           below = λ i l. rw (number-of-kept i) (g .below i (rw count-kept at l));
           back = λ i l.
