@@ -9,3 +9,5 @@ pub mod Square
 pub mod Drawn
 pub mod Draws
 pub mod Refined
+pub mod Once
+pub mod Written

@@ -17,7 +17,7 @@ use Rattle.paper.proofs.Names.{any-append}
 use Rattle.area.specs.Cells.{bucket-cell, symbol-cell, word}
 use Rattle.area.proofs.Laws.{word-same, word-other}
 use Rattle.sight.specs.Sums.{sum, one}
-use Rattle.sight.proofs.Sums.{sum-same, sum-one, sum-few}
+use Rattle.sight.proofs.Sums.{sum-same, sum-one, sum-few, sum-zero}
 use Rattle.disjoint.specs.Found.{meets, has, rising, partners}
 use Rattle.disjoint.specs.Words.{atom-at, number-at, first-of, count-of, number-of, numbers, listed, RowNumbered, Buckets}
 use Rattle.disjoint.specs.Marks.{mark-cell, mark, marked, tally, Remarked, Marks, fresh, MarksOne, above}
@@ -262,16 +262,12 @@ unmarked w n u k h = ne-eqb (mark w n k) (u + 1) (λ q. omega (arith, q))
 pub turn-count :
     {w v : List ℕ} {n m u r : ℕ} (s : List Pair) → ((k : ℕ) → k < m → mark w n k ≤ u) → Marks w v n m u (rising s u) r
     → r ≡ partners s m u
-unfolding tally partners sum
+unfolding tally partners
 turn-count {w} {v} {n} {m} {u} {r} s h x =
-    let a : sum (λ k. one (marked w n u k)) m ≡ 0 = none (λ k. one (marked w n u k)) m (λ k l. ap one (unmarked w n u k (h k l))) in
+    let a : sum (λ k. one (marked w n u k)) m ≡ 0 = sum-zero (λ k. one (marked w n u k)) m (λ k l. ap one (unmarked w n u k (h k l))) in
     let b : sum (λ k. one (marked v n u k)) m ≡ sum (λ k. one (rising s u k)) m =
       sum-same _ _ m (λ k l. ap one (x .marks k l ∙ ap (λ t. or t (rising s u k)) (unmarked w n u k (h k l)))) in
     omega (arith, a, b, x .count)
-  where
-    none : (f : ℕ → ℕ) (m : ℕ) → ((k : ℕ) → k < m → f k ≡ 0) → sum f m ≡ 0
-    none f zero e = refl
-    none f (suc m) e = omega (arith, none f m (λ k l. e k (omega arith)), e m (omega arith))
 
 -- ---- the marks taken away
 pub clear-next :

@@ -115,7 +115,7 @@ new-last (y ∷ s) l x =
 pub record Either (p : Pair → Bool) : Type 0 where
   pub turned : (x y : Pair) → same-pair x y ≡ true → p x ≡ p y
 
-any-kept :
+pub any-kept :
     (p : Pair → Bool) → Either p → (x : Pair) (l : List Pair) → p x ≡ true
     → any (same-pair x) (keep p l) ≡ any (same-pair x) l
 unfolding any keep
