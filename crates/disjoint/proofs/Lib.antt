@@ -1,3 +1,4 @@
+pub mod Bools
 pub mod New
 pub mod Count
 pub mod Mandatory

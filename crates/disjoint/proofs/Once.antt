@@ -2,36 +2,33 @@
 -- Assumes nothing.
 use mathlib.Core.Path.{_≡_, refl, sym, ap, _∙_}
 use mathlib.Core.Logic.{_≢_}
-use mathlib.Core.Bool.{Bool, true, false}
+use mathlib.Core.Bool.{Bool, true}
 use mathlib.Core.List.{List, [], _∷_, _++_, map}
-use Prim.Native.Nat.{ℕ, zero, suc, _+_, _*_, _<_, _≤_}
+use Prim.Native.Nat.{ℕ, zero, suc, _+_, _<_}
 use native.Mathlib.Omega.{arith}
 use lib.Dec.{eqb, ltb}
 use lib.ListN.{length, getD}
 use borrow.Author.Tests.{lt-ltb, ne-eqb}
-use Rattle.paper.specs.Base.{choose, and, not, all, any, keep, gather}
+use Rattle.paper.specs.Base.{and, not, all, any, keep, gather}
 use Rattle.paper.specs.Frames.{Pair, pair, pairs-in, new-pairs}
 use Rattle.paper.proofs.Tests.{split, clash}
 use Rattle.area.specs.Cells.{statement-cell, word}
 use Rattle.sight.specs.Static.{stack}
-use Rattle.sight.specs.Sums.{sum, one}
+use Rattle.sight.specs.Sums.{one}
 use Rattle.sight.proofs.Sums.{sum-same, sum-zero}
-use Rattle.disjoint.specs.Found.{both, proper, meets, rising, partners, count}
+use Rattle.disjoint.specs.Found.{both, proper, meets, partners, count}
 use Rattle.disjoint.specs.Words.{count-of, numbers, listed, RowNumbered, Stacked}
 use Rattle.disjoint.specs.Drawn.{once}
 use Rattle.disjoint.proofs.New.{any-kept, new-kept}
 use Rattle.disjoint.proofs.Count.{count-new}
 use Rattle.disjoint.proofs.Mandatory.{both-either}
 use Rattle.disjoint.proofs.Words.{length-numbers, numbers-at, listed-more}
+use Rattle.disjoint.proofs.Bools.{and-false, and-right}
 
 -- ---- the count
-and-no : (b : Bool) → and b false ≡ false
-and-no true = refl
-and-no false = refl
-
 count-none : (m : ℕ) → count [] m ≡ 0
 unfolding count partners meets any
-count-none m = sum-zero _ m (λ u l. sum-zero _ m (λ v k. ap one (and-no (ltb u v))))
+count-none m = sum-zero _ m (λ u l. sum-zero _ m (λ v k. ap one (and-false (ltb u v))))
 
 -- pairs that are not both below m do not count
 count-kept : (m : ℕ) (s : List Pair) → count (keep (both m) s) m ≡ count s m
@@ -39,10 +36,10 @@ unfolding count partners meets
 count-kept m s =
     sum-same _ _ m
     (λ u l.
-      sum-same _ _ m
-      (λ v k.
-        ap (λ t. one (and (ltb u v) t))
-        (any-kept (both m) (both-either m) (pair u v) s (rw (lt-ltb u m l, lt-ltb v m k)))))
+    sum-same _ _ m
+    (λ v k.
+    ap (λ t. one (and (ltb u v) t))
+    (any-kept (both m) (both-either m) (pair u v) s (rw (lt-ltb u m l, lt-ltb v m k)))))
 
 proper-kept : (m v : ℕ) (s : List Pair) → all (proper v) s ≡ true → all (proper m) (keep (both m) s) ≡ true
 unfolding all keep
@@ -50,20 +47,16 @@ proper-kept m v [] e = refl
 proper-kept m v (x ∷ s) e =
     split (proper v x)
     (λ q.
-      let r : all (proper m) (keep (both m) s) ≡ true = proper-kept m v s (rw q at e) in
-      let n : not (eqb (x .left) (x .right)) ≡ true = second (both v x) (not (eqb (x .left) (x .right))) q in
-      split (both m x) (λ b. rw (b, b, n) r) (λ b. rw b r))
+    let r : all (proper m) (keep (both m) s) ≡ true = proper-kept m v s (rw q at e) in
+    let n : not (eqb (x .left) (x .right)) ≡ true = and-right (both v x) (not (eqb (x .left) (x .right))) q in
+    split (both m x) (λ b. rw (b, b, n) r) (λ b. rw b r))
     (λ q. absurd (clash (sym (rw q at e))))
-  where
-    second : (a b : Bool) → and a b ≡ true → b ≡ true
-    second true b q = q
-    second false b q = absurd (clash (sym q))
 
 pub count-once : (m v : ℕ) (s : List Pair) → all (proper v) s ≡ true → count s m ≡ length (once m s)
 unfolding once keep
 count-once m v s e =
     let a : length (new-pairs (keep (both m) s) []) + count [] m ≡ count (keep (both m) s) m =
-      count-new (keep (both m) s) [] m (proper-kept m v s e) in
+    count-new (keep (both m) s) [] m (proper-kept m v s e) in
     let b : new-pairs (keep (both m) s) [] ≡ keep (both m) (new-pairs s []) = new-kept (both m) (both-either m) s [] in
     omega (arith, a, ap length b, count-none m, count-kept m s)
 
@@ -98,8 +91,8 @@ row-proper {w} {n} {v} {r} x =
     let c : (i : ℕ) → i < length (numbers w n r) → i < count-of w r = λ i a. omega (arith, length-numbers w n r) in
     pairs-proper v (numbers w n r) (λ i a. rw (numbers-at w n r i (c i a)) (x .below i (c i a)))
     (λ i j a b q.
-      x .differ i j a (c j b)
-      (sym (numbers-at w n r i (c i (omega arith))) ∙ q ∙ numbers-at w n r j (c j b)))
+    x .differ i j a (c j b)
+    (sym (numbers-at w n r i (c i (omega arith))) ∙ q ∙ numbers-at w n r j (c j b)))
 
 pub listed-proper : {w : List ℕ} {n v : ℕ} (d : ℕ) → Stacked w n v d → all (proper v) (listed w n d) ≡ true
 unfolding listed stack gather all

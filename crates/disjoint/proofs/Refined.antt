@@ -1,37 +1,34 @@
 -- What the words say of the frame in hand: the numbers of a row are those of its names, so the pairs are those found.
 -- Assumes nothing.
 use mathlib.Core.Path.{_≡_, refl, sym, ap, _∙_}
-use mathlib.Core.Logic.{_≢_}
-use mathlib.Core.Bool.{Bool, true, false}
+use mathlib.Core.Bool.{true}
 use mathlib.Core.List.{List, [], _∷_, _++_, map}
-use Prim.Native.Nat.{ℕ, zero, suc, _+_, _-_, _*_, _<_, _≤_}
+use Prim.Native.Nat.{ℕ, zero, suc, _+_, _<_, _≤_}
 use native.Mathlib.Omega.{arith}
 use lib.ListN.{length, getD, take, drop, take-append-drop}
 use lib.Seq.{length-take-le}
-use Rattle.paper.specs.Base.{choose, gather, table}
+use Rattle.paper.specs.Base.{gather}
 use Rattle.paper.specs.Tokens.{Token}
-use Rattle.paper.specs.Statements.{Statement, none-end}
+use Rattle.paper.specs.Statements.{Statement}
 use Rattle.paper.specs.Checks.{token, no-token}
-use Rattle.paper.specs.Frames.{member, index, Pair, pairs-in, pairs, apart, row, rows}
-use Rattle.paper.proofs.Tests.{clash}
+use Rattle.paper.specs.Frames.{member, index, pairs-in, pairs, apart, row, rows}
 use Rattle.paper.proofs.Names.{index-lt, index-at, index-same, member-at}
 use Rattle.paper.proofs.Lists.{gather-append}
-use Rattle.paper.proofs.Gather.{map-append, gather-one}
+use Rattle.paper.proofs.Gather.{map-append}
 use Rattle.paper.proofs.Made.{table-same, table-map}
-use Rattle.area.specs.Cells.{statement-cell, bucket-cell, symbol-cell, math-cell, word}
+use Rattle.area.specs.Cells.{statement-cell, bucket-cell, symbol-cell, word}
 use Rattle.reader.specs.Rows.{stmt, before}
-use Rattle.nameck.specs.Atoms.{atoms, atom-of, name-of, bytes-of}
+use Rattle.nameck.specs.Atoms.{atoms, name-of, bytes-of}
 use Rattle.nameck.proofs.Atoms.{atom-below, name-of-atom}
-use Rattle.sight.specs.Static.{constant-name, row-disjoint, stack}
-use Rattle.sight.specs.Numbered.{number-word, Entry, Numbered, Holds}
+use Rattle.sight.specs.Static.{row-disjoint, stack}
+use Rattle.sight.specs.Numbered.{number-word, Entry, Holds}
 use Rattle.sight.proofs.Numbering.{few}
 use Rattle.sight.proofs.Walks.{Token-at, token-at}
 use Rattle.sight.proofs.Stacks.{stack-at}
 use Rattle.disjoint.specs.Found.{found-in, found}
-use Rattle.disjoint.specs.Words.{atom-at, number-at, first-of, count-of, number-of, numbers, listed, TokenNumbered, RowNumbered, Buckets, Stacked}
-use Rattle.disjoint.specs.Drawn.{once, bit-of, square}
+use Rattle.disjoint.specs.Words.{atom-at, number-at, first-of, count-of, number-of, numbers, listed, RowNumbered, Buckets, Stacked}
+use Rattle.disjoint.specs.Drawn.{once, square}
 use Rattle.disjoint.specs.Written.{names-at, Names, Active}
-use Rattle.disjoint.proofs.Words.{listed-more}
 use Rattle.disjoint.proofs.Mandatory.{pairs-found}
 use Rattle.disjoint.proofs.Apart.{apart-found}
 
@@ -52,8 +49,8 @@ module _ {t w : List ℕ} {n : ℕ} {l : List Statement} {vs : List (List ℕ)} 
   holds-buckets g =
       let below : (i : ℕ) → i < k → i < length vs = λ i j. omega (arith, h .count) in
       let atom : (i : ℕ) → i < k → word w (bucket-cell n i) < length (atoms l) = λ i j.
-        let e = h .numbered .entry i (below i j) in
-        rw (e .bucket) (atom-below l (getD vs i []) (e .occurs)) in
+      let e = h .numbered .entry i (below i j) in
+      rw (e .bucket) (atom-below l (getD vs i []) (e .occurs)) in
       record {
         room = record { room = h .named .shape .room; small = h .small };
         few = g;
@@ -165,6 +162,6 @@ module _ {t w : List ℕ} {n : ℕ} {l : List Statement} {vs : List (List ℕ)} 
       rw (listed-found, x .holds .count)
       (table-same _ _ (length vs)
       (λ i a.
-        table-same _ _ (length vs) (λ j b. sym (apart-found vs (x .holds .numbered .place) ds i j a b))
-        ∙ table-map (apart ds (getD vs i [])) vs [])
+      table-same _ _ (length vs) (λ j b. sym (apart-found vs (x .holds .numbered .place) ds i j a b))
+      ∙ table-map (apart ds (getD vs i [])) vs [])
       ∙ table-map (row vs ds) vs [])

@@ -1,16 +1,15 @@
 -- Pairs and rows written: the start and the end of the drawing, and the bytes by the words and by the definitions.
 -- Assumes nothing.
 use mathlib.Core.Path.{_≡_, refl, sym, ap, _∙_}
-use mathlib.Core.Bool.{Bool, true, false}
-use mathlib.Core.List.{List, [], _∷_, _++_, map, append-nil}
-use Prim.Native.Nat.{ℕ, _+_, _*_, _/_, _<_, _≤_, _^_}
+use mathlib.Core.List.{List, [], _++_, map, append-nil}
+use Prim.Native.Nat.{ℕ, _+_, _*_, _/_, _<_, _≤_}
 use native.Mathlib.Nat.{mul-le-mul-right}
 use native.Mathlib.Omega.{arith}
 use lib.ListN.{length, take, replicate, length-append}
-use Rattle.paper.specs.Base.{all, keep, gather}
+use Rattle.paper.specs.Base.{keep, gather}
 use Rattle.paper.specs.Frames.{Pair, new-pairs, pairs}
 use Rattle.paper.specs.Records.{u32, pair-bytes, row-bytes}
-use Rattle.area.specs.Cells.{bucket-cell, symbol-cell, word}
+use Rattle.area.specs.Cells.{bucket-cell, word}
 use Rattle.nameck.proofs.Atoms.{atom-below}
 use Rattle.sight.specs.Static.{stack}
 use Rattle.sight.specs.Sums.{sum}
@@ -18,14 +17,13 @@ use Rattle.stream.specs.Wrote.{Wrote}
 use Rattle.stream.proofs.Wrote.{wrote-none, wrote-then, wrote-as, wrote-to}
 use Rattle.stream.proofs.Records.{length-u32}
 use Rattle.stream.proofs.Rows.{row-width, length-rows, rows-dark}
-use Rattle.disjoint.specs.declared.draw.Grid.{Grid}
-use Rattle.disjoint.specs.Found.{both, proper, partners, count}
-use Rattle.disjoint.specs.Words.{listed, Stacked, CanCount}
+use Rattle.disjoint.specs.Found.{count}
+use Rattle.disjoint.specs.Words.{listed, CanCount}
 use Rattle.disjoint.specs.Marks.{mark, CanCountAll, PairCount}
-use Rattle.disjoint.specs.Drawn.{once, square, Drawing, CanDraw, Drew, CanDrawAll}
+use Rattle.disjoint.specs.Drawn.{once, square, Drawing, Drew, CanDrawAll}
 use Rattle.disjoint.specs.Written.{names-at, CanPutDisjoint, PutsDisjoint, word-bytes}
 use Rattle.disjoint.proofs.Square.{length-square, wide-square, square-none, length-pairs}
-use Rattle.disjoint.proofs.Refined.{holds-buckets, active-stacked, active-pairs, active-rows}
+use Rattle.disjoint.proofs.Refined.{active-stacked, active-pairs, active-rows}
 use Rattle.disjoint.proofs.Once.{count-once, listed-proper}
 
 -- ---- what is asked of the words
@@ -57,9 +55,9 @@ rows-size {k} {h} a e = omega (arith, e, mul-le-mul-right {m = k} {n = 4095} h a
 pub bytes-size : (m k : ℕ) (s : List Pair) {h : ℕ} → h ≡ (k + 7) / 8 → length (word-bytes m k s) ≡ 4 + (4 * length (once m s) + k * h)
 bytes-size m k s {h} e =
     let r : length (gather row-bytes (square s k)) ≡ k * h =
-      length-rows k (square s k) (wide-square s k)
-      ∙ ap (λ i. i * row-width k) (length-square s k)
-      ∙ ap (λ i. k * i) (sym e) in
+    length-rows k (square s k) (wide-square s k)
+    ∙ ap (λ i. i * row-width k) (length-square s k)
+    ∙ ap (λ i. k * i) (sym e) in
     omega (
       arith,
       r,
@@ -146,11 +144,11 @@ module _ {w v b c : List ℕ} {n at k m d p h from to : ℕ} (x : Laying w v b c
         → PutsDisjoint w v b u n at (to + k * h) k m d
     puts-whole {u} {q} y =
         let f : Drawing c u from q k (record { at = to; width = h; mandatory = m }) (listed w n d) [] =
-          (rw (x .count .words) at y) .sim c from k (listed w n d) [] begun in
+        (rw (x .count .words) at y) .sim c from k (listed w n d) [] begun in
         let g : f .done ≡ listed w n d = sym (append-nil (f .done)) ∙ f .sum in
         let i : Wrote c (f .mid) from q (gather pair-bytes (once m (listed w n d))) =
-          wrote-as (f .pairs) (ap (λ t. gather pair-bytes (once m t)) (sym g)) in
+        wrote-as (f .pairs) (ap (λ t. gather pair-bytes (once m t)) (sym g)) in
         let j : Wrote (f .mid) u to (to + k * h) (gather row-bytes (square (listed w n d) k)) =
-          wrote-as (f .rows) (ap (λ t. gather row-bytes (square t k)) (sym g)) in
+        wrote-as (f .rows) (ap (λ t. gather row-bytes (square t k)) (sym g)) in
         let z : to ≡ q = omega (arith, i .place, length-pairs (once m (listed w n d)), x .room, counted) in
         puts (wrote-then (wrote-as (x .wrote) (ap u32 (sym counted))) (wrote-then (wrote-to i z) j))

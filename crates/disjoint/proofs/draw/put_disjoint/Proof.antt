@@ -1,6 +1,5 @@
-use mathlib.Core.Path.{_≡_, refl, sym, ap, _∙_}
+use mathlib.Core.Path.{refl}
 use native.Mathlib.Omega.{arith}
-use Prim.Native.Nat.{_-_, _+_, _*_, _/_, _<_, _≤_}
 use Rattle.disjoint.proofs.Written.{put-count, rows-size, lay, lay-place, puts-short, lay-can, puts-whole}
 use borrow.Author.Needs.{needs}
 use Rattle.disjoint.proofs.draw.put_disjoint.Statement.{statement}

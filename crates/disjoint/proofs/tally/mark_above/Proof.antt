@@ -1,7 +1,5 @@
-use mathlib.Core.Path.{_≡_, refl, sym, ap, _∙_}
 use native.Mathlib.Omega.{arith}
-use Prim.Native.Nat.{_-_, _+_, _<_, _≤_}
-use Rattle.disjoint.specs.Marks.{MarksOne}
+use Prim.Native.Nat.{_-_}
 use Rattle.disjoint.proofs.Walks.{token-here, InvRow, row-begin, row-can, row-few, row-step, row-end}
 use borrow.Author.Needs.{needs}
 use Rattle.disjoint.proofs.tally.mark_above.Statement.{statement}
