@@ -3,18 +3,17 @@
 use mathlib.Core.Path.{_≡_, refl, sym, ap, _∙_}
 use mathlib.Core.Logic.{_≢_}
 use mathlib.Core.Bool.{Bool, true, false}
-use mathlib.Core.List.{List, [], _∷_, _++_, map}
-use Prim.Native.Nat.{ℕ, _+_, _<_, _≤_}
+use mathlib.Core.List.{List, [], _∷_, map}
+use Prim.Native.Nat.{ℕ, _<_}
 use native.Mathlib.Omega.{arith}
 use lib.Dec.{eqb}
 use lib.ListN.{length, getD}
 use borrow.Author.Tests.{eq-eqb, ne-eqb, eqb-true}
-use Rattle.paper.specs.Base.{choose, and, or, not, sameb, any, gather}
-use Rattle.paper.specs.Frames.{member, index, Pair, pair, pairs-in, same-pair, names-both, apart}
-use Rattle.paper.proofs.Tests.{split, clash, eqb-ne, same-eq, same-refl, eq-same, ne-same}
+use Rattle.paper.specs.Base.{and, or, not, sameb, any, gather}
+use Rattle.paper.specs.Frames.{member, index, pair, pairs-in, same-pair, names-both, apart}
+use Rattle.paper.proofs.Tests.{split, clash, eqb-ne, same-eq, eq-same, ne-same}
 use Rattle.paper.proofs.Names.{any-append, index-at, index-none}
 use Rattle.disjoint.specs.Found.{found-in, found, meets, has}
-use Rattle.disjoint.proofs.New.{both-ways}
 
 pub any-gather :
     {A B : Type 0} (p : B → Bool) (f : A → List B) (l : List A) → any p (gather f l) ≡ any (λ x. any p (f x)) l

@@ -4,19 +4,20 @@ use mathlib.Core.Path.{_≡_, refl, sym, ap, _∙_}
 use mathlib.Core.Logic.{_≢_}
 use mathlib.Core.Bool.{Bool, true, false}
 use mathlib.Core.List.{List, [], _∷_, _++_, append-assoc, append-nil}
-use Prim.Native.Nat.{ℕ, zero, suc, _+_, _<_, _≤_}
+use Prim.Native.Nat.{ℕ, _+_, _<_}
 use native.Mathlib.Omega.{arith}
 use lib.Dec.{eqb, ltb}
-use lib.ListN.{length, length-append}
-use borrow.Author.Tests.{eqb-true, eq-eqb, ltb-true, ltb-false, lt-ltb, le-ltb}
+use lib.ListN.{length}
+use borrow.Author.Tests.{eq-eqb, ltb-true, ltb-false, lt-ltb}
 use Rattle.paper.specs.Base.{choose, and, or, not, any, all}
-use Rattle.paper.specs.Frames.{Pair, pair, same-pair, new-pair, new-pairs}
-use Rattle.paper.proofs.Tests.{split, clash, eqb-ne}
+use Rattle.paper.specs.Frames.{Pair, pair, same-pair, new-pairs}
+use Rattle.paper.proofs.Tests.{split, clash}
 use Rattle.paper.proofs.Names.{any-append}
-use Rattle.sight.specs.Sums.{sum, one}
+use Rattle.sight.specs.Sums.{one}
 use Rattle.sight.proofs.Sums.{sum-same, sum-one}
 use Rattle.disjoint.specs.Found.{both, proper, meets, rising, partners, count}
-use Rattle.disjoint.proofs.New.{both-ways, same-cases, same-straight, same-crossed, any-same, any-again}
+use Rattle.disjoint.proofs.New.{same-cases, same-straight, same-crossed, any-same, any-again}
+use Rattle.disjoint.proofs.Bools.{or-false, and-left, and-right}
 
 -- the same test at each pair: the same count
 count-same :
@@ -37,10 +38,6 @@ meets-last l x u v =
 meets-any : (l : List Pair) (u v : ℕ) → meets l u v ≡ any (same-pair (pair u v)) l
 unfolding meets
 meets-any l u v = refl
-
-or-false : (b : Bool) → or b false ≡ b
-or-false true = refl
-or-false false = refl
 
 -- a pair a, b with a below b, new to l: one more
 count-rising :
@@ -82,22 +79,14 @@ count-more l x m e new =
     (λ u v k r. same-cases (pair u v) x r (λ a b. absurd (omega (arith, a, b))) (λ a b. (a, b)))
     (same-crossed (pair (x .right) (x .left)) x refl refl) new)
   where
-    first : (a b : Bool) → and a b ≡ true → a ≡ true
-    first true b q = refl
-    first false b q = q
-
-    second : (a b : Bool) → and a b ≡ true → b ≡ true
-    second true b q = q
-    second false b q = absurd (clash (sym q))
-
     below-left : (x : Pair) (m : ℕ) → proper m x ≡ true → x .left < m
-    below-left x m q = ltb-true _ _ (first (ltb (x .left) m) (ltb (x .right) m) (first (both m x) (not (eqb (x .left) (x .right))) q))
+    below-left x m q = ltb-true _ _ (and-left (ltb (x .left) m) (ltb (x .right) m) (and-left (both m x) (not (eqb (x .left) (x .right))) q))
 
     below-right : (x : Pair) (m : ℕ) → proper m x ≡ true → x .right < m
-    below-right x m q = ltb-true _ _ (second (ltb (x .left) m) (ltb (x .right) m) (first (both m x) (not (eqb (x .left) (x .right))) q))
+    below-right x m q = ltb-true _ _ (and-right (ltb (x .left) m) (ltb (x .right) m) (and-left (both m x) (not (eqb (x .left) (x .right))) q))
 
     differs : (x : Pair) (m : ℕ) → proper m x ≡ true → x .left ≢ x .right
-    differs x m q d = clash (sym (second (both m x) (not (eqb (x .left) (x .right))) q) ∙ ap not (eq-eqb _ _ d))
+    differs x m q d = clash (sym (and-right (both m x) (not (eqb (x .left) (x .right))) q) ∙ ap not (eq-eqb _ _ d))
 
 -- a pair that is there already: as many
 count-again :

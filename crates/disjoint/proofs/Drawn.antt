@@ -4,18 +4,17 @@ use mathlib.Core.Path.{_≡_, refl, sym, ap, _∙_}
 use mathlib.Core.Logic.{_≢_}
 use mathlib.Core.Bool.{Bool, true, false}
 use mathlib.Core.List.{List, [], _∷_, _++_, append-assoc, append-nil}
-use Prim.Native.Nat.{ℕ, _+_, _-_, _*_, _/_, _<_, _≤_, _^_}
-use native.Mathlib.Nat.{mul-le-mul-right}
+use Prim.Native.Nat.{ℕ, _+_, _-_, _*_, _<_, _≤_}
 use native.Mathlib.Omega.{arith}
 use lib.Dec.{eqb, ltb}
-use lib.ListN.{length, getD, set, length-set, take, drop, length-append, length-take, length-drop, take-append-drop}
+use lib.ListN.{length, getD, set, length-set, take, drop, length-append, length-drop, take-append-drop}
 use lib.Seq.{take-at, drop-at, drop-drop, length-take-le}
-use borrow.Author.Tests.{eqb-true, eq-eqb, ne-eqb, ltb-true, lt-ltb, le-ltb}
-use Rattle.paper.specs.Base.{choose, and, or, not, any, all, gather}
+use borrow.Author.Tests.{eq-eqb, ne-eqb, ltb-true}
+use Rattle.paper.specs.Base.{and, not, all, gather}
 use Rattle.paper.specs.Answer.{laid}
-use Rattle.paper.specs.Frames.{Pair, pair, same-pair}
+use Rattle.paper.specs.Frames.{Pair, pair}
 use Rattle.paper.specs.Records.{pair-bytes, row-bytes, u16}
-use Rattle.paper.proofs.Tests.{split, clash, eqb-ne}
+use Rattle.paper.proofs.Tests.{split, clash}
 use Rattle.paper.proofs.Lists.{gather-append}
 use Rattle.stream.specs.Bits.{bit-at, with-bit}
 use Rattle.stream.specs.Wrote.{Wrote}
@@ -23,11 +22,12 @@ use Rattle.stream.proofs.Laid.{length-laid}
 use Rattle.stream.proofs.Wrote.{wrote-then, wrote-as, wrote-to}
 use Rattle.stream.proofs.Records.{length-u16}
 use Rattle.stream.proofs.Rows.{row-width, Wide, lit-up, wide-lit}
-use Rattle.stream.proofs.Setting.{length-with, wrote-row-bit, wrote-row-set}
+use Rattle.stream.proofs.Setting.{wrote-row-bit, wrote-row-set}
 use Rattle.disjoint.specs.declared.draw.Grid.{Grid}
 use Rattle.disjoint.specs.Found.{both, proper, meets}
-use Rattle.disjoint.specs.Drawn.{once, bit-of, square, Drawing, CanDraw, Drew}
+use Rattle.disjoint.specs.Drawn.{once, square, Drawing}
 use Rattle.disjoint.proofs.Square.{length-square, wide-square, bit-square, square-more, square-again, once-again, once-out, once-in, once-prefix, length-pairs}
+use Rattle.disjoint.proofs.Bools.{and-left, and-right}
 
 -- ---- bytes laid before others that are laid
 laid-is :
@@ -35,9 +35,9 @@ laid-is :
 unfolding laid
 laid-is l a x z b i e h k =
     let d : drop (i + length b) (a ++ (x ++ z)) ≡ z =
-      sym (drop-drop (length b) i (a ++ (x ++ z)))
-      ∙ ap (drop (length b)) (drop-at a (x ++ z) i h)
-      ∙ drop-at x z (length b) k in
+    sym (drop-drop (length b) i (a ++ (x ++ z)))
+    ∙ ap (drop (length b)) (drop-at a (x ++ z) i h)
+    ∙ drop-at x z (length b) k in
     rw (e, take-at a (x ++ z) i h, d)
 
 module _ (l a x y d z b c : List ℕ) (i p : ℕ) (e : l ≡ a ++ (x ++ (y ++ (d ++ z)))) (h : length a ≡ i) (j : length x ≡ length b) (k : length a + (length x + length y) ≡ p) (o : length d ≡ length c) where
@@ -53,7 +53,7 @@ module _ (l a x y d z b c : List ℕ) (i p : ℕ) (e : l ≡ a ++ (x ++ (y ++ (d
   swap-parts : laid (laid l p c) i b ≡ laid (laid l i b) p c
   swap-parts =
       let f : laid l p c ≡ a ++ (x ++ (y ++ (c ++ z))) =
-        laid-is l (a ++ (x ++ y)) d z c p (e ∙ apart x) (size x refl) o ∙ joined x in
+      laid-is l (a ++ (x ++ y)) d z c p (e ∙ apart x) (size x refl) o ∙ joined x in
       let g : laid l i b ≡ a ++ (b ++ (y ++ (d ++ z))) = laid-is l a x (y ++ (d ++ z)) b i e h j in
       laid-is (laid l p c) a x (y ++ (c ++ z)) b i f h j
       ∙ sym (laid-is (laid l i b) (a ++ (b ++ y)) d z c p (g ∙ apart b) (size b (sym j)) o ∙ joined b)
@@ -107,14 +107,6 @@ all-middle : {A : Type 0} (t : A → Bool) (l : List A) (x : A) (r : List A) →
 unfolding all
 all-middle t [] x r e = split (t x) (λ q. q) (λ q. absurd (clash (sym (rw q at e))))
 all-middle t (y ∷ l) x r e = split (t y) (λ q. all-middle t l x r (rw q at e)) (λ q. absurd (clash (sym (rw q at e))))
-
-and-left : (a b : Bool) → and a b ≡ true → a ≡ true
-and-left true b e = refl
-and-left false b e = e
-
-and-right : (a b : Bool) → and a b ≡ true → b ≡ true
-and-right true b e = e
-and-right false b e = absurd (clash (sym e))
 
 pub record Next (x y v : ℕ) : Type 0 where
   pub left : x < v
@@ -183,10 +175,10 @@ module _ {a b : List ℕ} {from at v : ℕ} {g : Grid} {s : List Pair} (x y : �
       let w : Wide v r = wide-square (d .done) v in
       let o : length r ≡ v = length-square (d .done) v in
       let f : Wrote (d .mid) (with-bit b (g .at + x * row-width v) y) (g .at) (g .at + v * row-width v) (gather row-bytes (lit-up r x y)) =
-        wrote-row-set v r x y rows-wrote w (omega (arith, n .left, o)) (n .right) in
+      wrote-row-set v r x y rows-wrote w (omega (arith, n .left, o)) (n .right) in
       let k : length (lit-up r x y) ≡ v = length-lit r x y ∙ o in
       let h : Wrote (d .mid) (with-bit (with-bit b (g .at + x * row-width v) y) (g .at + y * row-width v) x) (g .at) (g .at + v * row-width v) (gather row-bytes (lit-up (lit-up r x y) y x)) =
-        wrote-row-set v (lit-up r x y) y x f (wide-lit v r x y w) (omega (arith, n .right, k)) (n .left) in
+      wrote-row-set v (lit-up r x y) y x f (wide-lit v r x y w) (omega (arith, n .right, k)) (n .left) in
       rw (d .width) (wrote-as h (ap (gather row-bytes) (sym (square-more (d .done) x y v (n .left) (n .right) (n .differ)))))
     where
       length-lit : (r : List (List Bool)) (i j : ℕ) → length (lit-up r i j) ≡ length r
@@ -225,31 +217,31 @@ module _ {a b : List ℕ} {from at v : ℕ} {g : Grid} {s : List Pair} (x y : �
     draw-in {z} {o} {p} {q} f k j =
         let w : Wrote c o at q (u16 x ++ u16 y) = wrote-then k j in
         let n : once (g .mandatory) (d .done ++ (pair x y ∷ [])) ≡ once (g .mandatory) (d .done) ++ (pair x y ∷ []) =
-          once-in (g .mandatory) (d .done) (pair x y) unmet f in
+        once-in (g .mandatory) (d .done) (pair x y) unmet f in
         let h : q ≤ g .at =
-          omega (
-            arith,
-            d .pairs .place,
-            length-pairs (once (g .mandatory) (d .done)),
-            k .place,
-            j .place,
-            length-u16 x,
-            length-u16 y,
-            d .room,
-            ap length n,
-            length-append (once (g .mandatory) (d .done)) (pair x y ∷ []),
-            once-prefix (g .mandatory) (d .done ++ (pair x y ∷ [])) rest,
-            ap (λ t. length (once (g .mandatory) t)) sum-next,
-          ) in
+        omega (
+          arith,
+          d .pairs .place,
+          length-pairs (once (g .mandatory) (d .done)),
+          k .place,
+          j .place,
+          length-u16 x,
+          length-u16 y,
+          d .room,
+          ap length n,
+          length-append (once (g .mandatory) (d .done)) (pair x y ∷ []),
+          once-prefix (g .mandatory) (d .done ++ (pair x y ∷ [])) rest,
+          ap (λ t. length (once (g .mandatory) t)) sum-next,
+        ) in
         let i : g .at + v * g .width ≤ length (d .mid) = omega (arith, d .fits, d .pairs .len) in
         record {
           done = d .done ++ (pair x y ∷ []);
           sum = sum-next;
           mid = laid (d .mid) at (u16 x ++ u16 y);
           pairs = wrote-as (wrote-then (d .pairs) (wrote-first rows-next w h i))
-            (ap (gather pair-bytes) n
-            ∙ gather-append pair-bytes (once (g .mandatory) (d .done)) (pair x y ∷ [])
-            ∙ ap (λ t. gather pair-bytes (once (g .mandatory) (d .done)) ++ t) (append-nil (u16 x ++ u16 y)));
+              (ap (gather pair-bytes) n
+              ∙ gather-append pair-bytes (once (g .mandatory) (d .done)) (pair x y ∷ [])
+              ∙ ap (λ t. gather pair-bytes (once (g .mandatory) (d .done)) ++ t) (append-nil (u16 x ++ u16 y)));
           rows = wrote-after rows-next w h i;
           fits = d .fits;
           width = d .width;

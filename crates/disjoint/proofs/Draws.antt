@@ -1,9 +1,9 @@
 -- The walks that draw: what holds before, after each step and at the end of each.
 -- The proofs of the functions cite these.
 use mathlib.Core.Path.{_≡_, refl, sym, ap, _∙_}
-use mathlib.Core.Bool.{Bool, true, false}
+use mathlib.Core.Bool.{true, false}
 use mathlib.Core.List.{List, [], _∷_, _++_, map, append-assoc}
-use Prim.Native.Nat.{ℕ, _+_, _-_, _*_, _/_, _<_, _≤_, _^_}
+use Prim.Native.Nat.{ℕ, _+_, _-_, _*_, _<_, _≤_, _^_}
 use native.Mathlib.Nat.{mul-le-mul-right}
 use native.Mathlib.Numerals.{add-one}
 use native.Mathlib.Omega.{arith}
@@ -11,7 +11,7 @@ use lib.Dec.{ltb}
 use lib.ListN.{length, getD, drop, drop-of-length-le}
 use lib.Seq.{drop-cons}
 use borrow.Author.Tests.{lt-ltb, le-ltb}
-use Rattle.paper.specs.Base.{and, gather}
+use Rattle.paper.specs.Base.{gather}
 use Rattle.paper.specs.Frames.{Pair, pair, pairs-in}
 use Rattle.paper.specs.Records.{u16}
 use Rattle.area.specs.Cells.{statement-cell, word}
@@ -22,10 +22,11 @@ use Rattle.stream.specs.Wrote.{Wrote}
 use Rattle.stream.proofs.Setting.{length-with}
 use Rattle.disjoint.specs.declared.draw.Grid.{Grid}
 use Rattle.disjoint.specs.Found.{both}
-use Rattle.disjoint.specs.Words.{number-at, first-of, count-of, numbers, listed, RowNumbered, CanWalk, CanCount}
-use Rattle.disjoint.specs.Drawn.{Drawing, CanDraw, Drew, pairs-at, CanDrawAt, CanDrawRow, CanDrawAll}
+use Rattle.disjoint.specs.Words.{number-at, first-of, count-of, numbers, listed}
+use Rattle.disjoint.specs.Drawn.{CanDraw, Drew, pairs-at, CanDrawAt, CanDrawRow, CanDrawAll}
 use Rattle.disjoint.proofs.Words.{length-numbers, number-next}
 use Rattle.disjoint.proofs.Drawn.{next-pair, draw-old, draw-out, draw-in, place-below}
+use Rattle.disjoint.proofs.Bools.{and-false}
 
 -- ---- one walk after another
 pub drew-none : (b : List ℕ) (g : Grid) (p : ℕ) (l : List Pair) → Drew b b g p p l l
@@ -102,11 +103,7 @@ module _ (b : List ℕ) (g : Grid) (p x y : ℕ) where
     drew-left q = out (rw (le-ltb x (g .mandatory) q))
 
     pub drew-right : g .mandatory ≤ y → Drew b o g p p (pair x y ∷ []) []
-    drew-right q = out (rw (le-ltb y (g .mandatory) q) (and-no (ltb x (g .mandatory))))
-      where
-        and-no : (t : Bool) → and t false ≡ false
-        and-no true = refl
-        and-no false = refl
+    drew-right q = out (rw (le-ltb y (g .mandatory) q) (and-false (ltb x (g .mandatory))))
 
     pub drew-both :
         {z u : List ℕ} {q r : ℕ} → x < g .mandatory → y < g .mandatory → Wrote o z p q (u16 x) → Wrote z u q r (u16 y)

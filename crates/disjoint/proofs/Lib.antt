@@ -1,3 +1,4 @@
+pub mod Bools
 pub mod New
 pub mod Count
 pub mod Mandatory
@@ -8,3 +9,6 @@ pub mod Walks
 pub mod Square
 pub mod Drawn
 pub mod Draws
+pub mod Refined
+pub mod Once
+pub mod Written

@@ -3,13 +3,13 @@
 use mathlib.Core.Path.{_≡_, refl, sym, ap, _∙_}
 use mathlib.Core.Bool.{Bool, true, false}
 use mathlib.Core.List.{List, [], _∷_, _++_, map}
-use Prim.Native.Nat.{ℕ, _+_, _<_, _≤_}
+use Prim.Native.Nat.{ℕ, _+_}
 use native.Mathlib.Omega.{arith}
 use lib.Dec.{ltb}
 use lib.ListN.{length}
 use borrow.Author.Tests.{lt-ltb, le-ltb}
 use Rattle.paper.specs.Base.{choose, and, keep, gather}
-use Rattle.paper.specs.Frames.{member, index, Pair, pair, pairs-in, same-pair, new-pairs, pairs-by, pairs}
+use Rattle.paper.specs.Frames.{member, index, pair, pairs-in, new-pairs, pairs-by, pairs}
 use Rattle.paper.proofs.Tests.{split}
 use Rattle.paper.proofs.Lists.{keep-append}
 use Rattle.paper.proofs.Names.{index-in, index-past, index-lt}

@@ -3,42 +3,27 @@
 use mathlib.Core.Path.{_≡_, refl, sym, ap, _∙_}
 use mathlib.Core.Logic.{_≢_}
 use mathlib.Core.Bool.{Bool, true, false}
-use mathlib.Core.List.{List, [], _∷_, _++_}
-use Prim.Native.Nat.{ℕ, zero, suc, _+_, _-_, _*_, _<_, _≤_}
+use mathlib.Core.List.{List, [], _++_}
+use Prim.Native.Nat.{ℕ, _+_, _<_, _≤_}
 use native.Mathlib.Omega.{arith}
 use lib.Dec.{eqb, ltb, leb}
 use lib.ListN.{length, getD, set, take, length-set}
 use lib.Seq.{ext-getD}
-use borrow.Author.Tests.{eqb-true, eq-eqb, ne-eqb, ltb-true, ltb-false, lt-ltb, le-leb, leb-true}
-use Rattle.paper.specs.Base.{choose, and, or, not, any}
+use borrow.Author.Tests.{eqb-true, eq-eqb, ne-eqb, ltb-true, lt-ltb, le-leb, leb-true}
+use Rattle.paper.specs.Base.{and, or, not, any}
 use Rattle.paper.specs.Frames.{Pair, pair, pairs-in, same-pair}
 use Rattle.paper.proofs.Tests.{split, clash, eqb-ne}
 use Rattle.paper.proofs.Names.{any-append}
 use Rattle.area.specs.Cells.{bucket-cell, symbol-cell, word}
 use Rattle.area.proofs.Laws.{word-same, word-other}
 use Rattle.sight.specs.Sums.{sum, one}
-use Rattle.sight.proofs.Sums.{sum-same, sum-one, sum-few}
+use Rattle.sight.proofs.Sums.{sum-same, sum-one, sum-few, sum-zero}
 use Rattle.disjoint.specs.Found.{meets, has, rising, partners}
-use Rattle.disjoint.specs.Words.{atom-at, number-at, first-of, count-of, number-of, numbers, listed, RowNumbered, Buckets}
+use Rattle.disjoint.specs.Words.{atom-at, number-at, first-of, count-of, number-of, RowNumbered, Buckets}
 use Rattle.disjoint.specs.Marks.{mark-cell, mark, marked, tally, Remarked, Marks, fresh, MarksOne, above}
 use Rattle.disjoint.proofs.Apart.{pairs-meet}
 use Rattle.disjoint.proofs.Words.{cell-kept, has-more}
-
-or-false : (b : Bool) → or b false ≡ b
-or-false true = refl
-or-false false = refl
-
-or-assoc : (a b c : Bool) → or (or a b) c ≡ or a (or b c)
-or-assoc true b c = refl
-or-assoc false b c = refl
-
-and-false : (b : Bool) → and b false ≡ false
-and-false true = refl
-and-false false = refl
-
-and-or : (a b c : Bool) → or (and a b) (and a c) ≡ and a (or b c)
-and-or true b c = refl
-and-or false b c = refl
+use Rattle.disjoint.proofs.Bools.{or-false, or-assoc, and-false, and-or}
 
 one-few : (b : Bool) → one b ≤ 1
 one-few true = omega arith
@@ -130,10 +115,10 @@ module _ (w : List ℕ) (n m u z : ℕ) (b : Buckets w n z) (h : m ≤ z) (x : �
       let v = set w (mark-cell w n x) (u + 1) in
       let here : marked v n u x ≡ true = eq-eqb _ _ (mark-here x refl) in
       let there : (k : ℕ) → k < m → k ≢ x → marked v n u k ≡ marked w n u k =
-        λ k l d. ap (λ a. eqb a (u + 1)) (mark-there k l d) in
+      λ k l d. ap (λ a. eqb a (u + 1)) (mark-there k l d) in
       let up : sum (λ k. one (marked v n u k)) m ≡ sum (λ k. one (marked w n u k)) m + 1 =
-        sum-one (λ k. one (marked w n u k)) (λ k. one (marked v n u k)) m x g (rw (here, new))
-        (λ k l d. ap one (there k l d)) in
+      sum-one (λ k. one (marked w n u k)) (λ k. one (marked v n u k)) m x g (rw (here, new))
+      (λ k l d. ap one (there k l d)) in
       record {
         kept = record {
           len = length-set w (mark-cell w n x) (u + 1);
@@ -142,11 +127,11 @@ module _ (w : List ℕ) (n m u z : ℕ) (b : Buckets w n z) (h : m ≤ z) (x : �
         marks = λ k l.
             split (eqb k x)
             (λ q.
-              let d : k ≡ x = eqb-true k x q in
-              let a : marked v n u k ≡ true = ap (marked v n u) d ∙ here in
-              let c : marked w n u k ≡ false = ap (marked w n u) d ∙ new in
-              let y : ltb u k ≡ true = lt-ltb u k (omega (arith, d)) in
-              rw (a, c, y, q))
+            let d : k ≡ x = eqb-true k x q in
+            let a : marked v n u k ≡ true = ap (marked v n u) d ∙ here in
+            let c : marked w n u k ≡ false = ap (marked w n u) d ∙ new in
+            let y : ltb u k ≡ true = lt-ltb u k (omega (arith, d)) in
+            rw (a, c, y, q))
             (λ q. rw q (there k l (eqb-ne q) ∙ sym (ap (or (marked w n u k)) (and-false (ltb u k)) ∙ or-false (marked w n u k))));
         count = omega (arith, up);
         low = λ k b l e f.
@@ -183,11 +168,11 @@ module _ {w : List ℕ} {n z r i : ℕ} (row : RowNumbered w n z r) (l : i < cou
   already m u k g d j e =
       split (marked w n u k) (λ q. rw q)
       (λ q.
-        let a : ltb (u + 1) (number-at w n (first-of w r + i)) ≡ true = lt-ltb (u + 1) (number-at w n (first-of w r + i)) (omega (arith, x-is)) in
-        let c : leb (number-at w n (first-of w r + i)) m ≡ true = le-leb (number-at w n (first-of w r + i)) m (omega (arith, x-is)) in
-        let o : eqb (word w (symbol-cell n (atom-at w n (first-of w r + i)) 6)) (u + 1) ≡ false =
-          ap (λ y. eqb y (u + 1)) (mark-is ∙ ap (mark w n) (sym d)) ∙ q in
-        absurd (clash (rw (a, c, o) at e)))
+      let a : ltb (u + 1) (number-at w n (first-of w r + i)) ≡ true = lt-ltb (u + 1) (number-at w n (first-of w r + i)) (omega (arith, x-is)) in
+      let c : leb (number-at w n (first-of w r + i)) m ≡ true = le-leb (number-at w n (first-of w r + i)) m (omega (arith, x-is)) in
+      let o : eqb (word w (symbol-cell n (atom-at w n (first-of w r + i)) 6)) (u + 1) ≡ false =
+      ap (λ y. eqb y (u + 1)) (mark-is ∙ ap (mark w n) (sym d)) ∙ q in
+      absurd (clash (rw (a, c, o) at e)))
 
   -- one that is to be marked
   record Fresh (m u : ℕ) : Type 0 where
@@ -199,7 +184,7 @@ module _ {w : List ℕ} {n z r i : ℕ} (row : RowNumbered w n z r) (l : i < cou
   unfolding fresh
   fresh-is m u e =
       let p = and-parts (ltb (u + 1) (number-at w n (first-of w r + i))) (leb (number-at w n (first-of w r + i)) m)
-        (not (eqb (word w (symbol-cell n (atom-at w n (first-of w r + i)) 6)) (u + 1))) e in
+      (not (eqb (word w (symbol-cell n (atom-at w n (first-of w r + i)) 6)) (u + 1))) e in
       record {
         above-u = omega (arith, x-is, ltb-true (u + 1) (number-at w n (first-of w r + i)) (p .0));
         below-m = omega (arith, x-is, leb-true (number-at w n (first-of w r + i)) m (p .1));
@@ -213,22 +198,22 @@ module _ {w : List ℕ} {n z r i : ℕ} (row : RowNumbered w n z r) (l : i < cou
       let x = number-of w n r i in
       split (fresh w n m (first-of w r + i) u)
       (λ e.
-        let p = fresh-is m u e in
-        let q : v ≡ set w (mark-cell w n x) (u + 1) = y .words ∙ rw (e, cell-is) in
-        let o : s ≡ 1 = y .count ∙ rw e in
-        rw (q, o) (marks-set w n m u z b h x (p .below-m) (p .above-u) (p .new)))
+      let p = fresh-is m u e in
+      let q : v ≡ set w (mark-cell w n x) (u + 1) = y .words ∙ rw (e, cell-is) in
+      let o : s ≡ 1 = y .count ∙ rw e in
+      rw (q, o) (marks-set w n m u z b h x (p .below-m) (p .above-u) (p .new)))
       (λ e.
-        let q : v ≡ w = y .words ∙ rw e in
-        let o : s ≡ 0 = y .count ∙ rw e in
-        rw (q, o)
-        (marks-old w n m u (λ k. and (ltb u k) (eqb k x))
-        (λ k g.
-          split (eqb k x)
-          (λ f.
-            split (ltb u k)
-            (λ j. rw (f, j) (already m u k g (eqb-true k x f) (ltb-true u k j) e))
-            (λ j. rw (f, j) (or-false (marked w n u k))))
-          (λ f. rw f (ap (or (marked w n u k)) (and-false (ltb u k)) ∙ or-false (marked w n u k))))))
+      let q : v ≡ w = y .words ∙ rw e in
+      let o : s ≡ 0 = y .count ∙ rw e in
+      rw (q, o)
+      (marks-old w n m u (λ k. and (ltb u k) (eqb k x))
+      (λ k g.
+      split (eqb k x)
+      (λ f.
+      split (ltb u k)
+      (λ j. rw (f, j) (already m u k g (eqb-true k x f) (ltb-true u k j) e))
+      (λ j. rw (f, j) (or-false (marked w n u k))))
+      (λ f. rw f (ap (or (marked w n u k)) (and-false (ltb u k)) ∙ or-false (marked w n u k))))))
 
 -- the tokens so far, and one more
 pub above-more :
@@ -262,16 +247,12 @@ unmarked w n u k h = ne-eqb (mark w n k) (u + 1) (λ q. omega (arith, q))
 pub turn-count :
     {w v : List ℕ} {n m u r : ℕ} (s : List Pair) → ((k : ℕ) → k < m → mark w n k ≤ u) → Marks w v n m u (rising s u) r
     → r ≡ partners s m u
-unfolding tally partners sum
+unfolding tally partners
 turn-count {w} {v} {n} {m} {u} {r} s h x =
-    let a : sum (λ k. one (marked w n u k)) m ≡ 0 = none (λ k. one (marked w n u k)) m (λ k l. ap one (unmarked w n u k (h k l))) in
+    let a : sum (λ k. one (marked w n u k)) m ≡ 0 = sum-zero (λ k. one (marked w n u k)) m (λ k l. ap one (unmarked w n u k (h k l))) in
     let b : sum (λ k. one (marked v n u k)) m ≡ sum (λ k. one (rising s u k)) m =
-      sum-same _ _ m (λ k l. ap one (x .marks k l ∙ ap (λ t. or t (rising s u k)) (unmarked w n u k (h k l)))) in
+    sum-same _ _ m (λ k l. ap one (x .marks k l ∙ ap (λ t. or t (rising s u k)) (unmarked w n u k (h k l)))) in
     omega (arith, a, b, x .count)
-  where
-    none : (f : ℕ → ℕ) (m : ℕ) → ((k : ℕ) → k < m → f k ≡ 0) → sum f m ≡ 0
-    none f zero e = refl
-    none f (suc m) e = omega (arith, none f m (λ k l. e k (omega arith)), e m (omega arith))
 
 -- ---- the marks taken away
 pub clear-next :
@@ -284,11 +265,11 @@ clear-next {w} {v} {n} {c} {m} {i} x e h zero-before =
       same = λ j f.
           split (eqb j i)
           (λ q.
-            let d : j ≡ i = eqb-true j i q in
-            ap (word (set v i 0)) d ∙ word-same v i 0 h ∙ sym (ap (word w) (d ∙ e) ∙ zero-before))
+          let d : j ≡ i = eqb-true j i q in
+          ap (word (set v i 0)) d ∙ word-same v i 0 h ∙ sym (ap (word w) (d ∙ e) ∙ zero-before))
           (λ q.
-            word-other v i j 0 (eqb-ne q)
-            ∙ x .same j (λ k a b d. split (eqb k c) (λ p. eqb-ne {x = j} {y = i} q (d ∙ ap (mark-cell w n) (eqb-true k c p) ∙ sym e)) (λ p. let o : k ≢ c = eqb-ne p in f k (omega (arith, o)) b d)));
+          word-other v i j 0 (eqb-ne q)
+          ∙ x .same j (λ k a b d. split (eqb k c) (λ p. eqb-ne {x = j} {y = i} q (d ∙ ap (mark-cell w n) (eqb-true k c p) ∙ sym e)) (λ p. let o : k ≢ c = eqb-ne p in f k (omega (arith, o)) b d)));
     }
 
 pub clear-end : {w v : List ℕ} {n m : ℕ} → Remarked n m m w v → v ≡ w

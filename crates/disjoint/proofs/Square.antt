@@ -4,16 +4,16 @@ use mathlib.Core.Path.{_≡_, refl, sym, ap, _∙_}
 use mathlib.Core.Logic.{_≢_}
 use mathlib.Core.Bool.{Bool, true, false}
 use mathlib.Core.List.{List, [], _∷_, _++_, append-assoc, append-nil}
-use Prim.Native.Nat.{ℕ, zero, suc, _+_, _*_, _<_, _≤_}
+use Prim.Native.Nat.{ℕ, zero, suc, _*_, _<_, _≤_}
 use native.Mathlib.Numerals.{add-one}
 use native.Mathlib.Omega.{arith}
 use lib.Dec.{eqb}
 use lib.ListN.{length, getD, set, replicate, length-append, replicate-append-replicate}
 use borrow.Author.Tests.{eqb-true, eq-eqb, ne-eqb}
-use Rattle.paper.specs.Base.{choose, and, or, not, any, keep, gather, table}
+use Rattle.paper.specs.Base.{and, or, not, any, keep, gather, table}
 use Rattle.paper.specs.Frames.{Pair, pair, same-pair, new-pair, new-pairs}
 use Rattle.paper.specs.Records.{pair-bytes, u16}
-use Rattle.paper.proofs.Tests.{split, clash, eqb-ne}
+use Rattle.paper.proofs.Tests.{split}
 use Rattle.paper.proofs.Lists.{keep-append}
 use Rattle.paper.proofs.Tables.{length-table, getD-table, set-table}
 use Rattle.paper.proofs.Made.{table-same}
@@ -21,8 +21,9 @@ use Rattle.stream.proofs.Records.{length-u16}
 use Rattle.stream.proofs.Rows.{Wide, lit-up}
 use Rattle.disjoint.specs.Found.{both, meets}
 use Rattle.disjoint.specs.Drawn.{once, bit-of, square-of, square}
-use Rattle.disjoint.proofs.New.{any-same, new-last, same-straight, same-crossed}
+use Rattle.disjoint.proofs.New.{any-same, new-last, same-crossed}
 use Rattle.disjoint.proofs.Count.{meets-last}
+use Rattle.disjoint.proofs.Bools.{or-true, or-false, and-false}
 
 -- ---- rows made by a rule
 pub length-square : (s : List Pair) (v : ℕ) → length (square s v) ≡ v
@@ -54,14 +55,6 @@ lit-square f g v i j h k e s =
     (sym (set-table (f i) (g i) v j true k e (λ b l n. s i b h l (λ p q. n q))))
     (λ a l n. table-same (g a) (f a) v (λ b m. s a b l m (λ p q. n p)))
 
-or-true : (b : Bool) → or b true ≡ true
-or-true true = refl
-or-true false = refl
-
-or-false : (b : Bool) → or b false ≡ b
-or-false true = refl
-or-false false = refl
-
 -- the two tests at once
 both-no : (a x b y : ℕ) → (a ≡ x → b ≡ y → ⊥) → and (eqb a x) (eqb b y) ≡ false
 both-no a x b y n =
@@ -85,12 +78,12 @@ module _ (s : List Pair) (x y v : ℕ) (h : x < v) (k : y < v) (n : x ≢ y) whe
       (rw (ne-eqb y x (λ q. n (sym q)), meets-last s (pair x y) y x, same-crossed (pair y x) (pair x y) refl refl)
       (or-true (meets s y x)))
       (λ a b l m d.
-        rw (meets-last s (pair x y) a b, both-no a y b x d)
-        (split (eqb a b)
-        (λ q.
-          let c : a ≡ b = eqb-true a b q in
-          rw (q, both-no a x b y (λ e f. n (sym e ∙ c ∙ f))))
-        (λ q. rw (q, or-false (and (eqb a x) (eqb b y))))))
+      rw (meets-last s (pair x y) a b, both-no a y b x d)
+      (split (eqb a b)
+      (λ q.
+      let c : a ≡ b = eqb-true a b q in
+      rw (q, both-no a x b y (λ e f. n (sym e ∙ c ∙ f))))
+      (λ q. rw (q, or-false (and (eqb a x) (eqb b y))))))
 
   pub square-more : lit-up (lit-up (square s v) x y) y x ≡ square (s ++ (pair x y ∷ [])) v
   unfolding square
@@ -107,11 +100,11 @@ unfolding square
 square-again s x y v e =
     square-same (bit-of (s ++ (pair x y ∷ []))) (bit-of s) v
     (λ a b l m.
-      ap (and (not (eqb a b)))
-      (meets-last s (pair x y) a b
-      ∙ split (same-pair (pair a b) (pair x y))
-        (λ q. let z : meets s a b ≡ true = meets-same s x y a b q ∙ e in rw z)
-        (λ q. rw q (or-false (meets s a b)))))
+    ap (and (not (eqb a b)))
+    (meets-last s (pair x y) a b
+    ∙ split (same-pair (pair a b) (pair x y))
+    (λ q. let z : meets s a b ≡ true = meets-same s x y a b q ∙ e in rw z)
+    (λ q. rw q (or-false (meets s a b)))))
 
 -- no pair at all
 table-const : {A : Type 0} (a : A) (n : ℕ) → table (λ i. a) n ≡ replicate n a
@@ -125,13 +118,9 @@ table-const a (suc n) =
 pub square-none : (v : ℕ) → square [] v ≡ replicate v (replicate v false)
 unfolding square meets any
 square-none v =
-    square-same (bit-of []) (λ i j. false) v (λ i j l m. none (not (eqb i j)))
+    square-same (bit-of []) (λ i j. false) v (λ i j l m. and-false (not (eqb i j)))
     ∙ ap (λ r. table (λ i. r) v) (table-const false v)
     ∙ table-const (replicate v false) v
-  where
-    none : (b : Bool) → and b false ≡ false
-    none true = refl
-    none false = refl
 
 -- ---- the mandatory pairs, each once
 module _ (m : ℕ) (s : List Pair) (p : Pair) where

@@ -1,26 +1,26 @@
 -- The walks of the count: what holds before, after each step and at the end of each.
 -- The proofs of the functions cite these.
 use mathlib.Core.Path.{_≡_, refl, sym, ap, _∙_}
-use mathlib.Core.Bool.{Bool, true, false}
-use mathlib.Core.List.{List, [], _∷_, _++_}
-use Prim.Native.Nat.{ℕ, zero, suc, _+_, _-_, _*_, _<_, _≤_}
+use mathlib.Core.Bool.{true, false}
+use mathlib.Core.List.{List, []}
+use Prim.Native.Nat.{ℕ, suc, _+_, _-_, _*_, _<_, _≤_}
 use native.Mathlib.Omega.{arith}
 use lib.Dec.{eqb, ltb}
 use lib.ListN.{length, getD, take, drop, set, length-set}
 use lib.Seq.{take-length}
 use borrow.Author.Tests.{lt-ltb, le-ltb, le-leb, lt-leb, eq-eqb, ne-eqb}
-use Rattle.paper.specs.Base.{choose, and, or, any, gather}
-use Rattle.paper.specs.Frames.{Pair, pairs-in}
+use Rattle.paper.specs.Base.{and, or, any, gather}
+use Rattle.paper.specs.Frames.{pairs-in}
 use Rattle.area.specs.Cells.{statement-cell, bucket-cell, symbol-cell, math-cell, word}
 use Rattle.area.proofs.Laws.{word-other}
 use Rattle.sight.specs.Static.{stack}
-use Rattle.sight.specs.Sums.{sum, one}
-use Rattle.sight.proofs.Sums.{sum-few}
+use Rattle.sight.specs.Sums.{sum}
 use Rattle.disjoint.specs.Found.{has, rising, partners}
-use Rattle.disjoint.specs.Words.{atom-at, number-at, first-of, count-of, number-of, numbers, listed, TokenNumbered, RowNumbered, Buckets, Stacked, CanWalk, CanCount}
-use Rattle.disjoint.specs.Marks.{mark-cell, mark, tally, Remarked, Marks, CanMark, fresh, MarksOne, CanMarkRow, above, CanCountOf, CountsOf, CanCountAll, CountsAll, CanClear, ClearsMarks, PairCount}
+use Rattle.disjoint.specs.Words.{atom-at, number-at, first-of, count-of, number-of, numbers, listed, TokenNumbered, RowNumbered, Buckets}
+use Rattle.disjoint.specs.Marks.{mark-cell, mark, Remarked, Marks, CanMark, fresh, MarksOne, CanMarkRow, above, CanCountOf, CountsOf, CanCountAll, CountsAll, CanClear, ClearsMarks, PairCount}
 use Rattle.disjoint.proofs.Words.{length-numbers, numbers-at, number-next, listed-more, has-end, has-here, has-next, statement-kept, bucket-kept, cell-kept, buckets-kept, number-of-kept, numbers-kept, row-kept, stacked-kept, listed-kept}
 use Rattle.disjoint.proofs.Marks.{remarked-none, remarked-then, tally-few, marks-none, marks-as, marks-then, marks-one, above-more, rising-row, rising-append, rising-none, turn-count, clear-next, clear-end}
+use Rattle.disjoint.proofs.Bools.{and-false}
 
 -- ---- one token: its atom, its number, and whether it is marked
 module _ (w : List ℕ) (n t : ℕ) where
@@ -57,7 +57,7 @@ module _ (w : List ℕ) (n t : ℕ) where
       unfolding fresh atom-at
       one-new q y =
           let f : fresh w n m t u ≡ true =
-            rw (← read-number e d, lt-ltb (u + 1) k h, le-leb k m l, mark-read, ne-eqb x (u + 1) q) in
+          rw (← read-number e d, lt-ltb (u + 1) k h, le-leb k m l, mark-read, ne-eqb x (u + 1) q) in
           record { words = rw f (y ∙ ap (λ c. set w (symbol-cell n c 6) (u + 1)) e); count = rw f }
 
 -- ---- the tokens of a row, as they are read
@@ -99,13 +99,9 @@ pub row-begin : (w : List ℕ) (n m r u : ℕ) → InvRow w w n m r u 0 0
 unfolding has any
 row-begin w n m r u =
     record {
-      marks = marks-none w n m u _ (λ k l. and-no (ltb u k));
+      marks = marks-none w n m u _ (λ k l. and-false (ltb u k));
       upto = omega arith;
     }
-  where
-    and-no : (b : Bool) → and b false ≡ false
-    and-no true = refl
-    and-no false = refl
 
 module _ {w₀ w : List ℕ} {n m r u s i f k : ℕ} (a : CanMarkRow w₀ n m r u) (h : InvRow w₀ w n m r u s i) (p : f ≡ first-of w₀ r) (q : k ≡ count-of w₀ r) where
   now : RowNumbered w n (a .walk .v) r
@@ -134,13 +130,13 @@ module _ {w₀ w : List ℕ} {n m r u s i f k : ℕ} (a : CanMarkRow w₀ n m r 
       let g = a .walk .mandatory in
       let e : i < count-of w₀ r = omega (arith, q) in
       let z : number-of w n r i ≡ getD (numbers w₀ n r) i 0 =
-        number-of-kept b g (h .marks .kept) r (a .walk .row) i ∙ sym (numbers-at w₀ n r i e) in
+      number-of-kept b g (h .marks .kept) r (a .walk .row) i ∙ sym (numbers-at w₀ n r i e) in
       let o : MarksOne w v n m (first-of w r + i) u x = rw (first-now, ← p) y in
       let j : Marks w v n m u (λ c. and (ltb u c) (eqb c (number-of w n r i))) x =
-        marks-one now (rw count-now e) (buckets-kept b g (h .marks .kept)) g o in
+      marks-one now (rw count-now e) (buckets-kept b g (h .marks .kept)) g o in
       record {
         marks = marks-as (marks-then b g (h .marks) j) (above (take (i + 1) (numbers w₀ n r)) u)
-          (λ c d. above-more (numbers w₀ n r) i u c (omega (arith, length-numbers w₀ n r))
+            (λ c d. above-more (numbers w₀ n r) i u c (omega (arith, length-numbers w₀ n r))
             ∙ ap (λ t. or (above (take i (numbers w₀ n r)) u c) (and (ltb u c) (eqb c t))) (sym z));
         upto = omega (arith, q);
       }
@@ -204,10 +200,10 @@ module _ {w₀ w : List ℕ} {n m d u s k : ℕ} (a : CanCountOf w₀ n m d u) (
       let g = a .walk .mandatory in
       let row = word w₀ (statement-cell k 11) in
       let z : numbers w n r ≡ numbers w₀ n row =
-        ap (numbers w n) (row-is l e) ∙ numbers-kept b g (h .marks .kept) row (a .walk .stacked .row k l) in
+      ap (numbers w n) (row-is l e) ∙ numbers-kept b g (h .marks .kept) row (a .walk .stacked .row k l) in
       record {
         marks = marks-as (marks-then b g (h .marks) y) (rising (listed w₀ n (k + 1)) u)
-          (λ c o. ap (λ t. rising t u c) (listed-more w₀ n k)
+            (λ c o. ap (λ t. rising t u c) (listed-more w₀ n k)
             ∙ rising-append (listed w₀ n k) (pairs-in (numbers w₀ n row)) u c
             ∙ ap (λ t. or (rising (listed w₀ n k) u c) (rising (pairs-in t) u c)) (sym z));
         upto = omega arith;
@@ -262,7 +258,7 @@ module _ {w₀ w : List ℕ} {n m d s u : ℕ} (a : CanCountAll w₀ n m d) (h :
       let b = a .walk .stacked .buckets in
       let g = a .walk .mandatory in
       let e : r ≡ partners (listed w₀ n d) m u =
-        y .count ∙ ap (λ t. partners t m u) (listed-kept b g (h .kept) d (a .walk .stacked)) in
+      y .count ∙ ap (λ t. partners t m u) (listed-kept b g (h .kept) d (a .walk .stacked)) in
       record {
         kept = remarked-then b g (h .kept) (y .kept);
         marks = y .marks;
@@ -303,9 +299,9 @@ module _ {w₀ w : List ℕ} {n m k : ℕ} (a : CanClear w₀ n m) (h : InvClear
       let b = a .buckets in
       let g = a .mandatory in
       let z : symbol-cell n c 6 ≡ mark-cell w₀ n k =
-        ap (λ t. symbol-cell n t 6) (e ∙ bucket-kept b g (h .kept) k (omega (arith, b .most))) in
+      ap (λ t. symbol-cell n t 6) (e ∙ bucket-kept b g (h .kept) k (omega (arith, b .most))) in
       let o : symbol-cell n c 6 < length w =
-        omega (arith, z, b .atom k (omega arith), b .room .room, h .kept .len) in
+      omega (arith, z, b .atom k (omega arith), b .room .room, h .kept .len) in
       rw y
       (record {
         kept = record {

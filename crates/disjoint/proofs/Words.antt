@@ -1,7 +1,6 @@
 -- The words where only marks differ: numbers and pairs are the same, and what was asked of them still holds.
 -- Assumes nothing.
 use mathlib.Core.Path.{_≡_, refl, sym, ap, _∙_}
-use mathlib.Core.Logic.{_≢_}
 use mathlib.Core.Bool.{Bool, true, false}
 use mathlib.Core.List.{List, [], _∷_, _++_, append-nil}
 use Prim.Native.Nat.{ℕ, zero, suc, _+_, _-_, _*_, _<_, _≤_}
@@ -11,18 +10,17 @@ use lib.Dec.{eqb}
 use lib.ListN.{length, getD, take, drop, drop-of-length-le}
 use lib.Seq.{drop-cons, take-suc}
 use borrow.Author.Tests.{eq-eqb, ne-eqb}
-use Rattle.paper.specs.Base.{choose, or, any, gather, table}
-use Rattle.paper.specs.Frames.{Pair, pairs-in}
+use Rattle.paper.specs.Base.{choose, or, any, gather}
+use Rattle.paper.specs.Frames.{pairs-in}
 use Rattle.paper.proofs.Lists.{gather-append}
 use Rattle.paper.proofs.Names.{any-append}
 use Rattle.paper.proofs.Tables.{length-table, getD-table}
 use Rattle.paper.proofs.Made.{table-same}
 use Rattle.area.specs.Cells.{statement-cell, bucket-cell, symbol-cell, math-cell, word}
 use Rattle.sight.specs.Static.{stack}
-use Rattle.slots.specs.Kept.{Room}
 use Rattle.disjoint.specs.Found.{has}
 use Rattle.disjoint.specs.Words.{atom-at, number-at, first-of, count-of, number-of, numbers, listed, TokenNumbered, RowNumbered, Buckets, Stacked}
-use Rattle.disjoint.specs.Marks.{mark-cell, mark, Remarked}
+use Rattle.disjoint.specs.Marks.{mark-cell, Remarked}
 
 -- ---- the numbers of a row
 pub length-numbers : (w : List ℕ) (n r : ℕ) → length (numbers w n r) ≡ count-of w r
@@ -133,7 +131,6 @@ module _ {w v : List ℕ} {n c m z : ℕ} (b : Buckets w n z) (h : m ≤ z) (k :
     row-kept =
         record {
           here = g .here;
-          within = rw (first-kept, count-kept) (g .within);
           token = λ i l. rw first-kept (token-kept (first-of w r + i) (g .token i (rw count-kept at l)));
           below = λ i l. rw (number-of-kept i) (g .below i (rw count-kept at l));
           back = λ i l.
@@ -163,7 +160,7 @@ module _ {w v : List ℕ} {n c m z : ℕ} (b : Buckets w n z) (h : m ≤ z) (k :
       let e : word v (statement-cell d 11) ≡ word w (statement-cell d 11) = statement-kept d 11 (omega (arith, g .depth)) (omega arith) in
       let s : Stacked w n z d = record { buckets = g .buckets; depth = omega (arith, g .depth); row = λ i l. g .row i (omega arith) } in
       let q : numbers v n (word v (statement-cell d 11)) ≡ numbers w n (word w (statement-cell d 11)) =
-        ap (numbers v n) e ∙ numbers-kept (word w (statement-cell d 11)) (g .row d (omega arith)) in
+      ap (numbers v n) e ∙ numbers-kept (word w (statement-cell d 11)) (g .row d (omega arith)) in
       gather-append (λ r. pairs-in (numbers v n r)) (stack v 11 d) (word v (statement-cell d 11) ∷ [])
       ∙ ap (λ p. p ++ gather (λ r. pairs-in (numbers v n r)) (word v (statement-cell d 11) ∷ [])) (listed-kept d s)
       ∙ ap (λ l. gather (λ r. pairs-in (numbers w n r)) (stack w 11 d) ++ (pairs-in l ++ [])) q

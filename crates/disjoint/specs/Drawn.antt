@@ -2,13 +2,13 @@
 -- `s` are all pairs, in the order in which they are found; bit j of row i says whether i and j are a pair.
 use mathlib.Core.Path.{_≡_}
 use mathlib.Core.Bool.{Bool, true}
-use mathlib.Core.List.{List, [], _∷_, _++_, map}
+use mathlib.Core.List.{List, [], _++_, map}
 use Prim.Native.Nat.{ℕ, _+_, _*_, _/_, _<_, _≤_, _^_}
 use lib.Dec.{eqb}
 use lib.ListN.{length, getD, drop}
 use Rattle.paper.specs.Base.{and, not, all, keep, gather, table}
 use Rattle.paper.specs.Frames.{Pair, pair, pairs-in, new-pairs}
-use Rattle.paper.specs.Records.{pair-bytes, row-bytes, u32}
+use Rattle.paper.specs.Records.{pair-bytes, row-bytes}
 use Rattle.stream.specs.Wrote.{Wrote}
 use Rattle.disjoint.specs.declared.draw.Grid.{Grid}
 use Rattle.disjoint.specs.Found.{both, proper, meets}

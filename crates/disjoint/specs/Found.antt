@@ -1,10 +1,10 @@
 -- The pairs of numbers that the active `$d` name, in the order in which they are found, mandatory or not.
 -- `vs` are the variables of a frame, the mandatory ones first; `d` the names of each `$d`.
-use mathlib.Core.Bool.{Bool, true, false}
-use mathlib.Core.List.{List, [], _∷_, _++_, map}
+use mathlib.Core.Bool.{Bool}
+use mathlib.Core.List.{List, map}
 use Prim.Native.Nat.{ℕ}
 use lib.Dec.{eqb, ltb}
-use Rattle.paper.specs.Base.{choose, and, not, any, gather}
+use Rattle.paper.specs.Base.{and, not, any, gather}
 use Rattle.sight.specs.Sums.{sum, one}
 use Rattle.paper.specs.Frames.{index, Pair, pair, pairs-in, same-pair}
 

@@ -11,8 +11,8 @@ use Rattle.paper.specs.Base.{choose, and, or, not}
 use Rattle.area.specs.Cells.{bucket-cell, symbol-cell, word}
 use Rattle.sight.specs.Sums.{sum, one}
 use Rattle.slots.specs.Kept.{Room}
-use Rattle.disjoint.specs.Found.{has, rising, partners}
-use Rattle.disjoint.specs.Words.{atom-at, number-at, numbers, listed, TokenNumbered, Buckets, CanWalk, CanCount}
+use Rattle.disjoint.specs.Found.{has, partners}
+use Rattle.disjoint.specs.Words.{atom-at, number-at, listed, TokenNumbered, Buckets, CanWalk, CanCount}
 
 -- the mark of variable k, and whether it is that of turn u
 abbrev pub mark-cell : List ℕ → ℕ → ℕ → ℕ

@@ -45,7 +45,6 @@ pub record TokenNumbered (w : List ℕ) (n t : ℕ) : Type 0 where
 -- the tokens of row r have numbers below v, all different, and each has its atom in its bucket
 pub record RowNumbered (w : List ℕ) (n v r : ℕ) : Type 0 where
   pub here : 3 * r + 3 ≤ n
-  pub within : first-of w r + count-of w r ≤ n
   pub token : (i : ℕ) → i < count-of w r → TokenNumbered w n (first-of w r + i)
   pub below : (i : ℕ) → i < count-of w r → number-of w n r i < v
   pub back : (i : ℕ) → i < count-of w r → word w (bucket-cell n (number-of w n r i)) ≡ atom-at w n (first-of w r + i)

@@ -1,10 +1,11 @@
 // Pairs and rows drawn into the buffer: the rows tell which pairs were found, so that each mandatory pair is written once,
 // in the order and the orientation in which it is found.
-use slots::cells;
 use crate::tally;
+use slots::cells;
 ghost use mathlib.Core.List.{[], _∷_};
 ghost use Rattle.paper.specs.Frames.{pair, pairs-in};
 ghost use Rattle.disjoint.specs.Words.{numbers, listed};
+ghost use Rattle.disjoint.specs.Written.{CanPutDisjoint, PutsDisjoint};
 ghost use Rattle.disjoint.specs.Drawn.{CanDraw, Drew, pairs-at, CanDrawAt, CanDrawRow, CanDrawAll};
 
 /// Where the rows of a frame stand, the bytes of a row, and the number of mandatory variables.
@@ -36,7 +37,15 @@ pub fn put_pair(buf: &mut [u8], at: usize, g: Grid, x: usize, y: usize) -> usize
 }
 
 /// The pairs of the i-th token of a `$d` with those right of it.
-pub fn put_pairs_at(work: &[u32], n: usize, buf: &mut [u8], at: usize, g: Grid, row: usize, i: usize) -> usize
+pub fn put_pairs_at(
+    work: &[u32],
+    n: usize,
+    buf: &mut [u8],
+    at: usize,
+    g: Grid,
+    row: usize,
+    i: usize,
+) -> usize
     requires { ⌜ CanDrawAt (now work) (now buf) n row i g at ⌝ }
     ensures { λ r. ⌜ Drew (now (buf .entry)) (now (buf .exit)) g at r (pairs-at (numbers (now (work .entry)) n row) i) [] ⌝ }
 {
@@ -81,4 +90,36 @@ pub fn put_pairs(work: &[u32], n: usize, buf: &mut [u8], at: usize, g: Grid, ds:
         k += 1;
     }
     a
+}
+
+/// The number of mandatory pairs, the pairs, and the rows. If they do not all fit, only the place after them is answered.
+pub fn put_disjoint(
+    work: &mut [u32],
+    n: usize,
+    buf: &mut [u8],
+    at: usize,
+    vars: usize,
+    mandatory: usize,
+    ds: usize,
+) -> usize
+    requires { ⌜ CanPutDisjoint (now work) n at vars mandatory ds ⌝ }
+    ensures { λ r. ⌜ PutsDisjoint (now (work .entry)) (now (work .exit)) (now (buf .entry)) (now (buf .exit)) n at r vars mandatory ds ⌝ }
+{
+    let pairs = tally::pair_count(work, n, mandatory, ds);
+    let width = (vars + 7) / 8;
+    let size = vars * width;
+    let body = stream::write::put_u32(buf, at, pairs as u64);
+    let rows = body + 4 * pairs;
+    let end = rows + size;
+    if buf.len() < end {
+        return end;
+    }
+    stream::write::put_zeros(buf, rows, size);
+    let g = Grid {
+        at: rows,
+        width,
+        mandatory,
+    };
+    put_pairs(work, n, buf, body, g, ds);
+    end
 }

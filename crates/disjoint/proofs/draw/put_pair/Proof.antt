@@ -1,6 +1,5 @@
-use mathlib.Core.Path.{_≡_, refl, sym, ap, _∙_}
+use mathlib.Core.Path.{sym, _∙_}
 use native.Mathlib.Omega.{arith}
-use Prim.Native.Nat.{_+_, _*_, _<_, _≤_}
 use Rattle.disjoint.proofs.Draws.{pair-fits, drew-old, drew-left, drew-right, drew-both}
 use borrow.Author.Needs.{needs}
 use Rattle.disjoint.proofs.draw.put_pair.Statement.{statement}

@@ -1,6 +1,5 @@
-use mathlib.Core.Path.{_≡_, refl, sym, ap, _∙_}
 use native.Mathlib.Omega.{arith}
-use Prim.Native.Nat.{_-_, _+_, _<_, _≤_}
+use Prim.Native.Nat.{_-_}
 use Rattle.disjoint.proofs.Walks.{token-here}
 use Rattle.disjoint.proofs.Draws.{InvAt, at-begin, at-can, at-step, at-end}
 use borrow.Author.Needs.{needs}
@@ -31,19 +30,19 @@ cast-count : tie.Need-cast-count Inv-loop μ-loop
 cast-count c = search needs
 
 add-number : tie.Need-add-number Inv-loop μ-loop
-add-number c = omega (arith, c .before .of-statement .ensures, c .of-statement2 .ensures, c .before .before .before .before .pre .here, c .before .before .before .before .pre .walk .row .within, c .before .before .before .before .pre .walk .buckets .room .small)
+add-number c = omega (arith, token-here (c .before .before .before .before .args .i) (c .before .before .before .before .pre .walk .row) (c .before .of-statement .ensures) (c .of-statement2 .ensures) (omega (arith, c .of-statement2 .ensures, c .before .before .before .before .pre .here)) .here, c .before .before .before .before .pre .walk .buckets .room .small)
 
 number-requires : tie.Need-number-requires Inv-loop μ-loop
 number-requires c κs = (c .before .before .before .before .pre .walk .buckets .room, token-here _ (c .before .before .before .before .pre .walk .row) (c .before .of-statement .ensures) (c .of-statement2 .ensures) (omega (arith, c .of-statement2 .ensures, c .before .before .before .before .pre .here)))
 
 add-j : tie.Need-add-j Inv-loop μ-loop
-add-j c = omega (arith, c .before .before .before .before .before .pre .here, c .before .before .before .before .before .pre .walk .row .within, c .before .before .before .before .before .pre .walk .buckets .room .small)
+add-j c = omega (arith, c .before .before .before .before .before .pre .here, c .before .of-statement2 .ensures)
 
 loop-holds : tie.Need-loop-holds Inv-loop μ-loop
 loop-holds c = at-begin _ _ _ _ _ _ _ (c .before .before .before .before .before .pre .here) (c .before .before .of-statement .ensures) (c .number .ensures)
 
 add-number-2 : tie.Need-add-number-2 Inv-loop μ-loop
-add-number-2 c = omega (arith, c .before .before .before .before .of-statement .ensures, c .before .before .before .of-statement2 .ensures, c .before .before .before .before .before .before .before .pre .walk .row .within, c .before .before .before .before .before .before .before .pre .walk .buckets .room .small)
+add-number-2 c = omega (arith, token-here (c .before .loop .j) (c .before .before .before .before .before .before .before .pre .walk .row) (c .before .before .before .before .of-statement .ensures) (c .before .before .before .of-statement2 .ensures) (search needs) .here, c .before .before .before .before .before .before .before .pre .walk .buckets .room .small)
 
 number-requires-2 : tie.Need-number-requires-2 Inv-loop μ-loop
 number-requires-2 c κs = (c .before .before .before .before .before .before .before .pre .walk .buckets .room, token-here _ (c .before .before .before .before .before .before .before .pre .walk .row) (c .before .before .before .before .of-statement .ensures) (c .before .before .before .of-statement2 .ensures) (search needs))

@@ -1,4 +1,3 @@
-use mathlib.Core.Path.{_≡_, refl, sym, ap, _∙_}
 use Rattle.area.specs.Cells.{word}
 use borrow.Author.Needs.{needs}
 use Rattle.disjoint.proofs.tally.atom_of.Statement.{statement}

@@ -1,6 +1,5 @@
-use mathlib.Core.Path.{_≡_, refl, sym, ap, _∙_}
 use native.Mathlib.Omega.{arith}
-use Prim.Native.Nat.{_-_, _+_, _<_, _≤_}
+use Prim.Native.Nat.{_-_}
 use Rattle.disjoint.proofs.Walks.{InvClear, clear-begin, clear-room, clear-step, clear-done}
 use borrow.Author.Needs.{needs}
 use Rattle.disjoint.proofs.tally.clear_marks.Statement.{statement}

@@ -1,6 +1,5 @@
-use mathlib.Core.Path.{_≡_, refl, sym, ap, _∙_}
 use native.Mathlib.Omega.{arith}
-use Prim.Native.Nat.{_-_, _+_, _<_, _≤_}
+use Prim.Native.Nat.{_-_}
 use Rattle.disjoint.proofs.Walks.{InvAll, all-begin, all-can, all-step, all-end}
 use borrow.Author.Needs.{needs}
 use Rattle.disjoint.proofs.tally.count_pairs.Statement.{statement}

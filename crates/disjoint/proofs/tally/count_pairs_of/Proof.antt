@@ -1,6 +1,5 @@
-use mathlib.Core.Path.{_≡_, refl, sym, ap, _∙_}
 use native.Mathlib.Omega.{arith}
-use Prim.Native.Nat.{_-_, _+_, _<_, _≤_}
+use Prim.Native.Nat.{_-_}
 use Rattle.disjoint.proofs.Walks.{InvOf, of-begin, of-room, of-can, of-few, of-step, of-end}
 use borrow.Author.Needs.{needs}
 use Rattle.disjoint.proofs.tally.count_pairs_of.Statement.{statement}

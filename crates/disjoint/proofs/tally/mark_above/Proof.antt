@@ -1,8 +1,6 @@
-use mathlib.Core.Path.{_≡_, refl, sym, ap, _∙_}
 use native.Mathlib.Omega.{arith}
-use Prim.Native.Nat.{_-_, _+_, _<_, _≤_}
-use Rattle.disjoint.specs.Marks.{MarksOne}
-use Rattle.disjoint.proofs.Walks.{InvRow, row-begin, row-can, row-few, row-step, row-end}
+use Prim.Native.Nat.{_-_}
+use Rattle.disjoint.proofs.Walks.{token-here, InvRow, row-begin, row-can, row-few, row-step, row-end}
 use borrow.Author.Needs.{needs}
 use Rattle.disjoint.proofs.tally.mark_above.Statement.{statement}
 use Rattle.disjoint.proofs.tally.mark_above.Tie as tie
@@ -33,7 +31,7 @@ loop-holds : tie.Need-loop-holds Inv-loop μ-loop
 loop-holds c = row-begin _ _ _ _ _
 
 add-mark-one : tie.Need-add-mark-one Inv-loop μ-loop
-add-mark-one c = omega (arith, c .before .before .before .before .before .of-statement .ensures, c .before .before .before .of-statement2 .ensures, c .before .before .before .before .before .before .before .before .pre .walk .row .within, c .before .before .before .before .before .before .before .before .pre .walk .buckets .room .small)
+add-mark-one c = omega (arith, token-here (c .before .before .loop .i) (c .before .before .before .before .before .before .before .before .pre .walk .row) (c .before .before .before .before .before .of-statement .ensures) (c .before .before .before .of-statement2 .ensures) (search needs) .here, c .before .before .before .before .before .before .before .before .pre .walk .buckets .room .small)
 
 mark-one-requires : tie.Need-mark-one-requires Inv-loop μ-loop
 mark-one-requires c κs = row-can (c .before .before .before .before .before .before .before .before .pre) (c .before .before .loop .inv) (c .before .before .before .before .before .of-statement .ensures) (c .before .before .before .of-statement2 .ensures) (search needs)

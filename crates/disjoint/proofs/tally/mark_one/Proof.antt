@@ -1,4 +1,3 @@
-use mathlib.Core.Path.{_≡_, refl, sym, ap, _∙_}
 use native.Mathlib.Omega.{arith}
 use Rattle.disjoint.proofs.Walks.{atom-below, one-low, one-high, one-old, one-new}
 use borrow.Author.Needs.{needs}

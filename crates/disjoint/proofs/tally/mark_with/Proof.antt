@@ -1,4 +1,4 @@
-use mathlib.Core.Path.{_≡_, refl, sym, ap, _∙_}
+use mathlib.Core.Path.{sym, _∙_}
 use Rattle.disjoint.proofs.Walks.{with-yes, with-no}
 use borrow.Author.Needs.{needs}
 use Rattle.disjoint.proofs.tally.mark_with.Statement.{statement}

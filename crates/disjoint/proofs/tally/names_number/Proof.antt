@@ -1,6 +1,5 @@
-use mathlib.Core.Path.{_≡_, refl, sym, ap, _∙_}
 use native.Mathlib.Omega.{arith}
-use Prim.Native.Nat.{_-_, _+_, _<_, _≤_}
+use Prim.Native.Nat.{_-_}
 use Rattle.disjoint.proofs.Walks.{token-here, InvNames, names-begin, names-here, names-next, names-end}
 use borrow.Author.Needs.{needs}
 use Rattle.disjoint.proofs.tally.names_number.Statement.{statement}
@@ -32,7 +31,7 @@ loop-holds : tie.Need-loop-holds Inv-loop μ-loop
 loop-holds c = names-begin _ _ _ _
 
 add-number : tie.Need-add-number Inv-loop μ-loop
-add-number c = omega (arith, c .before .before .before .of-statement .ensures, c .before .before .of-statement2 .ensures, c .before .before .before .before .before .pre .row .within, c .before .before .before .before .before .pre .buckets .room .small)
+add-number c = omega (arith, token-here (c .before .loop .i) (c .before .before .before .before .before .pre .row) (c .before .before .before .of-statement .ensures) (c .before .before .of-statement2 .ensures) (search needs) .here, c .before .before .before .before .before .pre .buckets .room .small)
 
 number-requires : tie.Need-number-requires Inv-loop μ-loop
 number-requires c κs = (c .before .before .before .before .before .pre .buckets .room, token-here _ (c .before .before .before .before .before .pre .row) (c .before .before .before .of-statement .ensures) (c .before .before .of-statement2 .ensures) (search needs))

@@ -1,4 +1,3 @@
-use mathlib.Core.Path.{_≡_, refl, sym, ap, _∙_}
 use Rattle.disjoint.proofs.Walks.{count-clear, count-done}
 use borrow.Author.Needs.{needs}
 use Rattle.disjoint.proofs.tally.pair_count.Statement.{statement}
