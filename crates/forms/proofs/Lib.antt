@@ -1,1 +1,3 @@
 pub mod Read
+pub mod OneName
+pub mod Variables
