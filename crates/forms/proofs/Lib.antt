@@ -1,1 +1,5 @@
 pub mod Read
+pub mod OneName
+pub mod Variables
+pub mod Constants
+pub mod Essentials
