@@ -3,3 +3,4 @@ pub mod OneName
 pub mod Variables
 pub mod Constants
 pub mod Essentials
+pub mod Fragments

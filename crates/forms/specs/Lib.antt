@@ -1,3 +1,4 @@
 pub mod Words
 pub mod Ready
 pub mod Puts
+pub mod Spelling
