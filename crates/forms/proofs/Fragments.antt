@@ -43,7 +43,7 @@ pub variables-step : {w : List ℕ} {n row s r i x k : ℕ} → InvVariables w n
 unfolding variables-to
 variables-step {w} {n} {row} {s} {r} {i} {x} {k} h e l q y =
     let z : r ≡ variable-size (word w (symbol-cell n (atom-at w n row i) 5)) =
-      y .1 ∙ ap variable-size q ∙ ap (λ a. variable-size (word w (symbol-cell n a 5))) e in
+    y .1 ∙ ap variable-size q ∙ ap (λ a. variable-size (word w (symbol-cell n a 5))) e in
     record {
       few = omega (arith, h .few, h .from, y .0);
       from = omega arith;
@@ -188,8 +188,9 @@ pub fragments-end : {w b₀ b b₁ b₂ : List ℕ} {n row a at i q r : ℕ} {p 
     → (r ≤ at + 8 + 10 * n) × Wrote b₀ b₂ at r (spelling w n row a)
 unfolding spelling
 fragments-end {w} {n = n} {row = row} {a = a} {i = i} g h l x y =
-    let e : count-of w row ≡ i = omega (arith, h .upto) in
-    (omega (arith, x .0, y .0, h .few, h .upto, g .words .tokens),
-    rw e
-    (wrote-then (h .wrote)
-    (wrote-then (wrote-as (x .1) (ap u32 (sym (h .begins)))) (wrote-as (y .1) (ap u32 (sym (h .stops)))))))
+    let e : count-of w row ≡ i = omega (arith, h .upto) in (
+      omega (arith, x .0, y .0, h .few, h .upto, g .words .tokens),
+      rw e
+          (wrote-then (h .wrote)
+          (wrote-then (wrote-as (x .1) (ap u32 (sym (h .begins)))) (wrote-as (y .1) (ap u32 (sym (h .stops)))))),
+    )

@@ -4,3 +4,5 @@ pub mod Variables
 pub mod Constants
 pub mod Essentials
 pub mod Fragments
+pub mod Formulas
+pub mod Spelled

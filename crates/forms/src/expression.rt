@@ -78,7 +78,14 @@ pub fn put_symbol(work: &[u32], n: usize, buf: &mut [u8], p: Reached, atom: usiz
 }
 
 /// The fragments and the rump of a row, whose constants stand in the pool from `pool` on.
-pub fn put_fragments(work: &[u32], n: usize, buf: &mut [u8], at: usize, row: usize, pool: usize) -> usize
+pub fn put_fragments(
+    work: &[u32],
+    n: usize,
+    buf: &mut [u8],
+    at: usize,
+    row: usize,
+    pool: usize,
+) -> usize
     requires { ⌜ SomeRow (now work) n row × RowNumbers (now work) n row × (at < 2 ^ 61) × (pool < 2 ^ 61) ⌝ }
     ensures { λ r. ⌜ (r ≤ at + 8 + 10 * n) × Wrote (now (buf .entry)) (now (buf .exit)) at r (spelling (now (work .entry)) n row pool) ⌝ }
 {
@@ -100,7 +107,15 @@ pub fn put_fragments(work: &[u32], n: usize, buf: &mut [u8], at: usize, row: usi
 }
 
 /// The expression of a row, whose constants stand in the pool from `pool` on.
-pub fn put_expression(text: &[u8], work: &[u32], n: usize, buf: &mut [u8], at: usize, row: usize, pool: usize) -> usize
+pub fn put_expression(
+    text: &[u8],
+    work: &[u32],
+    n: usize,
+    buf: &mut [u8],
+    at: usize,
+    row: usize,
+    pool: usize,
+) -> usize
     requires { ⌜ RowWords (now text) (now work) n row × RowNumbers (now work) n row × (at < 2 ^ 60) × (pool < 2 ^ 60) ⌝ }
     ensures { λ r. ⌜ PutExpression (now (text .entry)) (now (work .entry)) n row pool (now (buf .entry)) (now (buf .exit)) at r ⌝ }
 {

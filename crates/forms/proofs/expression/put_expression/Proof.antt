@@ -1,3 +1,4 @@
+use Rattle.forms.proofs.Spelled.{typecode-words, expression-put}
 use borrow.Author.Needs.{needs}
 use Rattle.forms.proofs.expression.put_expression.Statement.{statement}
 use Rattle.forms.proofs.expression.put_expression.Tie as tie
@@ -20,7 +21,7 @@ count-variables-requires : tie.Need-count-variables-requires
 count-variables-requires c κs = search needs
 
 put-name-requires : tie.Need-put-name-requires
-put-name-requires c κs = ?
+put-name-requires c κs = (typecode-words (c .before .before .before .before .before .before .before .pre .0) (c .before .before .before .statement-word .ensures .0) (c .before .before .math-word .ensures .0), search needs)
 
 put-u32-requires : tie.Need-put-u32-requires
 put-u32-requires c κs = search needs
@@ -32,7 +33,7 @@ same-length : tie.Need-same-length
 same-length c = search needs
 
 returns : tie.Need-returns
-returns c = ?
+returns c = expression-put (c .before .before .before .before .before .before .before .before .before .before .before .before .before .before .before .before .before .before .pre .0) (c .before .before .before .before .before .before .before .before .before .before .before .before .before .before .statement-word .ensures .0) (c .before .before .before .before .before .before .before .before .before .before .before .before .before .math-word .ensures .0) (c .before .before .before .before .before .before .before .before .before .before .before .before .count-variables .ensures) (c .before .before .before .before .before .before .before .before .before .before .put-name .ensures) (c .before .before .before .before .before .before .put-u32 .ensures) (c .before .before .put-fragments .ensures)
 
 pub put-expression-spec : {M : Type 1} → statement M
 put-expression-spec =
