@@ -6,3 +6,4 @@ pub mod Essentials
 pub mod Fragments
 pub mod Formulas
 pub mod Spelled
+pub mod Order

@@ -2,3 +2,4 @@ pub mod Words
 pub mod Ready
 pub mod Puts
 pub mod Spelling
+pub mod HypRows
