@@ -7,3 +7,4 @@ pub mod Fragments
 pub mod Formulas
 pub mod Spelled
 pub mod Order
+pub mod Counted
