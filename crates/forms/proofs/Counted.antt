@@ -22,7 +22,7 @@ use Rattle.forms.specs.HypRows.{among, floating, essential-kind, is-floa
 use Rattle.forms.proofs.Order.{Up, rising, among-above}
 
 -- ---- the hypothesis of a row, by its kind
-float-kind : (k : Kind) → floating k ≡ true → k ≡ $f
+pub float-kind : (k : Kind) → floating k ≡ true → k ≡ $f
 float-kind $c e = absurd (clash (sym e))
 float-kind $v e = absurd (clash (sym e))
 float-kind $d e = absurd (clash (sym e))

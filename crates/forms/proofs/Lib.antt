@@ -8,3 +8,5 @@ pub mod Formulas
 pub mod Spelled
 pub mod Order
 pub mod Counted
+pub mod Floats
+pub mod FloatWalk

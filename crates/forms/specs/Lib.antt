@@ -3,3 +3,4 @@ pub mod Ready
 pub mod Puts
 pub mod Spelling
 pub mod HypRows
+pub mod HypPuts
