@@ -122,17 +122,26 @@ sizes-end {w} {n} {row} {s} {i} h l =
     (omega (arith, h .few, h .upto), h .is ∙ ap (sizes-to w n row) e)
 
 -- ---- and are as many as are written
-sum-gather : {A : Type 0} (g : A → List ℕ) (f : ℕ → A) (k : ℕ) → sum (λ j. length (g (f j))) k ≡ length (gather g (table f k))
+pub sum-gather : {A B : Type 0} (g : A → List B) (f : ℕ → A) (k : ℕ) → sum (λ j. length (g (f j))) k ≡ length (gather g (table f k))
 unfolding sum table gather
 sum-gather g f zero = refl
 sum-gather g f (suc k) =
     let e : length (gather g (table f (k + 1))) ≡ length (gather g (table f k)) + length (g (f k)) = ap length (gather-table g f k) ∙ length-append (gather g (table f k)) (g (f k)) in
     ap (λ r. r + length (g (f k))) (sum-gather g f k) ∙ sym e ∙ ap (λ r. length (gather g (table f r))) (add-one k)
 
-pub sizes-are : {t w : List ℕ} {n row : ℕ} → RowWords t w n row → sizes-to w n row (count-of w row) ≡ length (constants-of t w n row)
-unfolding sizes-to constants-of constants-to body-of
-sizes-are {t} {w} {n} {row} h =
-    let k = count-of w row - 1 in
-    sum-same (λ j. constant-size w n (atom-at w n row (j + 1))) (λ j. length (constant-in (word-symbol t w n (atom-at w n row (j + 1))))) k
-    (λ j l. size-is (h .names (j + 1) (omega (arith, h .some))))
-    ∙ sum-gather constant-in (λ j. word-symbol t w n (atom-at w n row (j + 1))) k
+module _ {t w : List ℕ} {n row : ℕ} (h : RowWords t w n row) where
+  sizes-upto : (k : ℕ) → k < word w (statement-cell row 6)
+      → sum (λ j. constant-size w n (atom-at w n row (j + 1))) k ≡ length (gather constant-in (table (λ j. word-symbol t w n (atom-at w n row (j + 1))) k))
+  sizes-upto k l =
+      sum-same (λ j. constant-size w n (atom-at w n row (j + 1))) (λ j. length (constant-in (word-symbol t w n (atom-at w n row (j + 1))))) k
+      (λ j m. size-is (h .names (j + 1) (omega arith)))
+      ∙ sum-gather constant-in (λ j. word-symbol t w n (atom-at w n row (j + 1))) k
+
+  pub sizes-at : (k : ℕ) → k < word w (statement-cell row 6)
+      → sizes-to w n row (k + 1) ≡ length (gather constant-in (table (λ j. word-symbol t w n (atom-at w n row (j + 1))) k))
+  unfolding sizes-to
+  sizes-at k l = let e : k + 1 - 1 ≡ k = omega arith in rw e (sizes-upto k l)
+
+  pub sizes-are : sizes-to w n row (count-of w row) ≡ length (constants-of t w n row)
+  unfolding sizes-to constants-of constants-to body-of
+  sizes-are = sizes-upto (count-of w row - 1) (omega (arith, h .some))
