@@ -10,3 +10,4 @@ pub mod Order
 pub mod Counted
 pub mod Floats
 pub mod FloatWalk
+pub mod StackRows
