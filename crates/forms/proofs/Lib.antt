@@ -11,3 +11,4 @@ pub mod Counted
 pub mod Floats
 pub mod FloatWalk
 pub mod StackRows
+pub mod HypWalk
