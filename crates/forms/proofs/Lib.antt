@@ -10,3 +10,5 @@ pub mod Order
 pub mod Counted
 pub mod Floats
 pub mod FloatWalk
+pub mod StackRows
+pub mod HypWalk
