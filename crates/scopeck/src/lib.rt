@@ -3,6 +3,7 @@
 use paper::Atom;
 use paper::StatementOffset;
 
+pub mod fold;
 pub mod kinds;
 pub mod rows;
 
