@@ -1,0 +1,1 @@
+// Mandatory pairs and rows: counted in the work area, and found in their order by the rows themselves.

@@ -1,0 +1,1 @@
+// Laws only: what the grammar says of the statements of every text that is read.

@@ -1,0 +1,3 @@
+// The record streams: writers of numbers, strings and records into a lent buffer, and the reading of a frame stream.
+// Every writer answers the place after its bytes, so the same call measures where the lent buffer is empty.
+pub mod write;
