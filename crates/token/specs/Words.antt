@@ -36,6 +36,9 @@ tokens-from t i = toks (drop i t) i
 abbrev pub token-at : List ℕ → ℕ → ℕ → Token
 token-at t s e = record { at = s; bytes = take (e - s) (drop s t) }
 
+abbrev pub token-of : List ℕ → Span → Token
+token-of t x = token-at t (x .start) (x .stop)
+
 -- a token of a part of the text that starts at offset k, as a token of the text
 abbrev pub move : ℕ → Token → Token
 move k x = record { at = x .at + k; bytes = x .bytes }
