@@ -1,18 +1,18 @@
 -- What an answer of the cursor tells a caller: this is all that a crate above needs of the cursor.
 -- Assumes nothing.
 use mathlib.Core.Path.{_≡_, refl, sym, ap, _∙_}
-use mathlib.Core.Bool.{true, false}
-use mathlib.Core.List.{List, [], _∷_}
-use Prim.Native.Nat.{ℕ, _<_, _≤_}
+use mathlib.Core.Bool.{false}
+use mathlib.Core.List.{List, []}
+use Prim.Native.Nat.{ℕ, _<_}
 use native.Mathlib.Omega.{arith}
-use lib.Dec.{leb, ltb}
+use lib.Dec.{ltb}
 use borrow.Author.Tests.{ltb-true, ltb-false}
 use lib.ListN.{length, getD, drop}
 use Rattle.paper.specs.Bytes.{white}
 use Rattle.paper.specs.Tokens.{Token, label-token, math-token}
 use Rattle.paper.proofs.Tests.{split}
 use Rattle.token.specs.Class.{least}
-use Rattle.token.specs.Words.{word, past-gap, span-from, tokens-from, token-of, next-of}
+use Rattle.token.specs.Words.{Spans, Read, word, past-gap, span-from, tokens-from, next-of}
 use Rattle.token.specs.declared.cursor.Span.{Span}
 use Rattle.token.specs.declared.cursor.Cursor.{Cursor}
 use Rattle.token.specs.declared.cursor.Next.the-variants as next
@@ -24,22 +24,6 @@ pub next-is : (t : List ℕ) (i s : ℕ) (x : Span) → s ≡ past-gap t i → s
     → next.Token x (record { at = x .stop }) ≡ next-of (tokens-from t i)
 unfolding span-from
 next-is t i s x p h q = rw (q, p) (sym (ap next-of (tokens-next t i (rw p at h))))
-
--- a span that is a token of the text
-pub record Spans (t : List ℕ) (x : Span) : Type 0 where
-  pub here : tokens-from t (x .start) ≡ token-of t x ∷ tokens-from t (x .stop)
-  pub some : x .start < x .stop
-  pub within : x .stop ≤ length t
-  pub closed : x .stop < length t → white (getD t (x .stop) 0) ≡ true
-  pub label : leb 4 (x .least) ≡ label-token (token-of t x)
-  pub math : leb 3 (x .least) ≡ math-token (token-of t x)
-
--- the first token from offset i on
-pub record Read (t : List ℕ) (i : ℕ) (x : Span) (c : Cursor) : Type 0 where
-  pub skip : tokens-from t i ≡ tokens-from t (x .start)
-  pub stands : c .at ≡ x .stop
-  pub from : i ≤ x .start
-  pub whole : Spans t x
 
 -- the answer at a token that starts at s
 span-at : (t : List ℕ) (s : ℕ) → s < length t → white (getD t s 0) ≡ false
