@@ -1,2 +1,5 @@
 pub mod Passes
 pub mod Runs
+pub mod Stores
+pub mod Keeping
+pub mod Grammar

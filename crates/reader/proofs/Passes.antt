@@ -20,7 +20,7 @@ use Rattle.reader.specs.Passed.{Passed, Shows, Commented, Looked}
 use borrow.Author.Tests.{le-leb}
 
 -- no token from the end on
-tokens-end : (t : List ℕ) → tokens-from t (length t) ≡ []
+pub tokens-end : (t : List ℕ) → tokens-from t (length t) ≡ []
 unfolding tokens-from toks run
 tokens-end t = rw drop-length
 

@@ -3,3 +3,4 @@
 pub mod comment;
 pub mod kind;
 pub mod run;
+pub mod state;
