@@ -20,6 +20,7 @@ use Rattle.paper.proofs.Comments.{after-append, visible-append, visible-few}
 use Rattle.paper.proofs.Keys.{label-no-key}
 use Rattle.token.specs.Words.{tokens-from, token-of}
 use Rattle.token.specs.declared.cursor.Span.{Span}
+use Rattle.token.proofs.Counts.{tokens-few}
 use Rattle.reader.specs.Passed.{Passed, Shows}
 use Rattle.reader.specs.Held.{Reached}
 use Rattle.reader.proofs.Passes.{passed-none, passed-then, passed-few, passed-shows, tokens-end}
@@ -83,6 +84,9 @@ reached-token {t} {e} {c} {d} {m} {i} {x} {z} r s q = reached-run r (passed-show
 tokens-whole : (t : List ℕ) → tokens-from t 0 ≡ tokens t
 unfolding tokens-from tokens
 tokens-whole t = refl
+
+pub few-tokens : (t : List ℕ) → length (tokens t) ≤ length t
+few-tokens t = omega (arith, tokens-few t 0, ap length (tokens-whole t))
 
 pub reached-few : {t : List ℕ} {e c : ℕ} {z : Step} → Reached t e c z → c + length (tokens-from t e) ≤ length (tokens t)
 reached-few {t} {e} {c} r = omega (arith, r .size, passed-few (r .passed), ap length (tokens-whole t))

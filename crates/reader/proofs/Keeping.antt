@@ -211,6 +211,7 @@ module _ {t w u : List ℕ} {n : ℕ} {i : List Item} {rows maths items most sto
         all-maths = rw more (before-all (stated i) new rows (h .stated-rows) ∙ rw (h .all-maths, r .counted));
         all-items = omega (arith, length-append i (states new ∷ []), h .all-items);
         little = omega (arith, h .little);
+        fewer = omega (arith, h .fewer);
         kept = rw more kept-more;
         events = event-more;
         blank = λ c a b. mid-cell c (omega arith) (omega arith) ∙ h .blank c (omega arith) b;
@@ -255,6 +256,7 @@ module _ {t w v : List ℕ} {n : ℕ} {i : List Item} {rows maths items : ℕ} (
         all-maths = rw same (h .all-maths);
         all-items = omega (arith, length-append i (y ∷ []), h .all-items);
         little = h .little;
+        fewer = omega (arith, h .fewer);
         kept = rw same same-row;
         events = event-one;
         blank = λ c a b. other-cell c (λ q. omega (arith, q)) ∙ h .blank c a b;
@@ -280,6 +282,7 @@ words-start t w n m a b d e =
       all-maths = refl;
       all-items = refl;
       little = le-refl 0;
+      fewer = le-refl 0;
       kept = λ s l. absurd (not-suc-le-zero l);
       events = λ j l. absurd (not-suc-le-zero l);
       blank = λ c p q. rw e (zero-word m c);

@@ -3,3 +3,4 @@ pub mod Runs
 pub mod Stores
 pub mod Keeping
 pub mod Grammar
+pub mod Bodies

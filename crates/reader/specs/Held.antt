@@ -7,11 +7,12 @@ use Prim.Native.Nat.{ℕ, _+_, _<_, _≤_}
 use lib.ListN.{length}
 use Rattle.paper.specs.Tokens.{Token, tokens}
 use Rattle.paper.specs.Comments.{outside}
-use Rattle.paper.specs.Statements.{Kind, labelled, Item}
-use Rattle.paper.specs.Reader.{Mode, start, math, Step, go, many, refused, items}
+use Rattle.paper.specs.Statements.{Kind, $p, labelled, Item}
+use Rattle.paper.specs.Reader.{Mode, start, math, proof, Step, go, many, refused, items}
 use Rattle.token.specs.Words.{tokens-from}
 use Rattle.reader.specs.Rows.{kind-number, Stands}
 use Rattle.reader.specs.Passed.{Passed, Gap}
+use Rattle.reader.specs.Runs.{Running}
 use Rattle.reader.specs.Kept.{Words}
 use Rattle.reader.specs.declared.state.State.{State}
 use Rattle.reader.specs.declared.state.Head.{Head}
@@ -48,6 +49,17 @@ pub record Begun (t w : List ℕ) (n : ℕ) (s : State) (h : Head) : Type 0 wher
   pub within : h .from ≤ length t
   pub at : h .at ≤ length t
   pub size : h .label ≤ length t
+
+-- after the `$=` of a `$p`, whose math string stops at `to`
+pub record Stated (t u : List ℕ) (n : ℕ) (s : State) (h : Head) (to count at : ℕ) : Type 0 where
+  pub base : List ℕ
+  pub begun : Begun t base n s h
+  pub most : ℕ
+  pub run : Running t base u n (h .from) most (s .maths) to count
+  pub some : 1 ≤ count
+  pub kind : begun .kind ≡ $p
+  pub reached : Reached t at (s .rows + s .items + s .maths + 2 + count) (go (proof (h .at) (begun .name) (run .ms) []) (s .depth) (begun .found))
+  pub less : length (tokens-from t at) < length (tokens-from t (s .at))
 
 abbrev pub Turned : List ℕ → List ℕ → List ℕ → ℕ → ℕ → Turn → Type 0
 Turned t w v n at (turn.Next s) = Held t v n s × (length (tokens-from t (s .at)) < length (tokens-from t at))

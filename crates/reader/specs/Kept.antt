@@ -60,6 +60,7 @@ pub record Words (t w : List ℕ) (n : ℕ) (i : List Item) (rows maths items : 
   pub all-maths : before (stated i) rows ≡ maths
   pub all-items : length i ≡ items
   pub little : rows ≤ maths
+  pub fewer : rows ≤ items
   pub kept : (s : ℕ) → s < rows → Row t w n s (stmt (stated i) s) (before (stated i) s)
   pub events : (j : ℕ) → j < items → word w (bucket-cell n j) ≡ event (getD i j no-item)
   pub blank : (c : ℕ) → 12 * rows ≤ c → c < 7 * n → word w c ≡ 0
