@@ -4,3 +4,4 @@ pub mod Stores
 pub mod Keeping
 pub mod Grammar
 pub mod Bodies
+pub mod Items

@@ -61,7 +61,14 @@ pub record Stated (t u : List ℕ) (n : ℕ) (s : State) (h : Head) (to count at
   pub reached : Reached t at (s .rows + s .items + s .maths + 2 + count) (go (proof (h .at) (begun .name) (run .ms) []) (s .depth) (begun .found))
   pub less : length (tokens-from t at) < length (tokens-from t (s .at))
 
-abbrev pub Turned : List ℕ → List ℕ → List ℕ → ℕ → ℕ → Turn → Type 0
-Turned t w v n at (turn.Next s) = Held t v n s × (length (tokens-from t (s .at)) < length (tokens-from t at))
-Turned t w v n at (turn.Refused x) = items (tokens t) (length t) ≡ refused x
-Turned t w v n at turn.End = Passed t at (length t) outside [] outside × (v ≡ w)
+-- what reading an item that begins at `at` or later promises
+abbrev pub Turned : List ℕ → List ℕ → ℕ → ℕ → Turn → Type 0
+Turned t v n at (turn.Next s) = Held t v n s × (length (tokens-from t (s .at)) < length (tokens-from t at))
+Turned t v n at (turn.Refused x) = items (tokens t) (length t) ≡ refused x
+Turned t v n at turn.End = ⊥
+
+-- and what looking for one promises
+abbrev pub Taken : List ℕ → List ℕ → List ℕ → ℕ → ℕ → Turn → Type 0
+Taken t w v n at (turn.Next s) = Held t v n s × (length (tokens-from t (s .at)) < length (tokens-from t at))
+Taken t w v n at (turn.Refused x) = items (tokens t) (length t) ≡ refused x
+Taken t w v n at turn.End = Passed t at (length t) outside [] outside × (v ≡ w)

@@ -86,3 +86,19 @@ pub record RowRoom (w : List ℕ) (s : State) (h : Head) (to count : ℕ) : Type
 abbrev pub next-state : State → ℕ → ℕ → State
 next-state s count at =
     record { at = at; rows = s .rows + 1; maths = s .maths + count; items = s .items + 1; depth = s .depth }
+
+-- what the word of an item asks
+pub record EventRoom (w : List ℕ) (n : ℕ) (s : State) : Type 0 where
+  pub room : 16 * n ≤ length w
+  pub few : s .items < n
+  pub small : n ≤ 16777217
+  pub deep : s .depth ≤ s .items
+
+-- the states after `${` and after `$}`
+abbrev pub opened : State → ℕ → State
+opened s at =
+    record { at = at; rows = s .rows; maths = s .maths; items = s .items + 1; depth = s .depth + 1 }
+
+abbrev pub shut-one : State → ℕ → State
+shut-one s at =
+    record { at = at; rows = s .rows; maths = s .maths; items = s .items + 1; depth = s .depth - 1 }
