@@ -5,3 +5,4 @@ pub mod Keeping
 pub mod Grammar
 pub mod Bodies
 pub mod Items
+pub mod Backs
