@@ -2,24 +2,23 @@
 -- Assumes nothing.
 use mathlib.Core.Path.{_≡_, refl, sym, ap, _∙_}
 use mathlib.Core.Logic.{_≢_}
-use mathlib.Core.Bool.{Bool, true, false}
 use mathlib.Core.List.{List, [], _∷_, _++_}
 use Prim.Native.Nat.{ℕ, zero, suc, _+_, _-_, _*_, _<_, _≤_}
-use native.Mathlib.Nat.{le-refl, sub-zero}
+use native.Mathlib.Nat.{le-refl}
 use native.Mathlib.Omega.{arith}
 use lib.Dec.{eqb}
 use lib.ListN.{length, getD, take, drop, set, length-append, length-set, take-append-drop}
 use lib.Seq.{drop-cons, drop-length}
 use borrow.Author.Tests.{eq-eqb, ne-eqb, eqb-true}
-use Rattle.paper.specs.Base.{choose, gather}
-use Rattle.paper.specs.Statements.{Statement, none-end, Item, opens, closes, states, top, tail, onto, closers, ended, with-end, ends}
+use Rattle.paper.specs.Base.{gather}
+use Rattle.paper.specs.Statements.{Statement, none-end, Item, opens, closes, states, top, tail, closers, ends}
 use Rattle.paper.proofs.Tests.{split, eqb-ne}
 use Rattle.paper.proofs.Lists.{gather-append}
 use Rattle.area.specs.Cells.{statement-cell, bucket-cell, word}
 use Rattle.area.proofs.Laws.{word-same, word-other}
 use Rattle.reader.specs.Rows.{stmt}
 use Rattle.reader.specs.Kept.{stated-by, stated, event, no-item}
-use Rattle.reader.specs.Ends.{stack-cell, stack-of, back-words, back-state, BackRoom, Events, EndsRoom, Aside, Found, Backward, Ended}
+use Rattle.reader.specs.Ends.{stack-cell, stack-of, back-words, back-state, BackRoom, Events, EndsRoom, Found, Backward, Ended}
 use Rattle.reader.specs.declared.end.Back.{Back}
 
 -- ---- the stack

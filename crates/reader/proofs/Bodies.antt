@@ -1,34 +1,32 @@
 -- A statement from its keyword on: its math string, what closes it, its proof; the state after it.
 -- Assumes nothing.
 use mathlib.Core.Path.{_≡_, refl, sym, ap, _∙_}
-use mathlib.Core.Bool.{Bool, true, false}
+use mathlib.Core.Bool.{false}
 use mathlib.Core.List.{List, [], _∷_, _++_, append-nil}
-use Prim.Native.Nat.{ℕ, zero, suc, _+_, _*_, _<_, _≤_}
+use Prim.Native.Nat.{ℕ, _+_, _<_, _≤_}
 use native.Mathlib.Nat.{zero-add}
 use native.Mathlib.Omega.{arith}
-use lib.Dec.{eqb, leb, ltb}
+use lib.Dec.{leb, ltb}
 use lib.ListN.{length}
-use borrow.Author.Tests.{lt-ltb, leb-true, eqb-true}
-use Rattle.paper.specs.Base.{choose, and, sameb, all}
+use borrow.Author.Tests.{lt-ltb, leb-true}
+use Rattle.paper.specs.Base.{choose, and, sameb}
 use Rattle.paper.specs.Tokens.{Token, tokens, key, math-token}
-use Rattle.paper.specs.Comments.{outside}
-use Rattle.paper.specs.Statements.{Kind, $c, $v, $d, $f, $e, $a, $p, Statement, none-end, Item, states}
-use Rattle.paper.specs.Reader.{Mode, start, math, proof, Step, go, stop, room, least, closing, statement, closed, allow, with-items, many, refused, finish, items}
+use Rattle.paper.specs.Statements.{Kind, $c, $v, $d, $f, $e, $a, $p, Item}
+use Rattle.paper.specs.Reader.{Mode, start, math, proof, Step, go, stop, room, least, closing, statement, closed, allow, with-items, refused, finish, items}
 use Rattle.paper.specs.declared.Refusal.{Refusal}
 use Rattle.paper.specs.declared.Refusal.the-variants.{OpenComment, BadToken, OpenText}
 use Rattle.paper.proofs.Tests.{split}
 use Rattle.token.specs.Words.{tokens-from, token-of}
 use Rattle.token.specs.declared.cursor.Span.{Span}
 use Rattle.reader.specs.Rows.{kind-number}
-use Rattle.reader.specs.Passed.{Passed, Shows, Seen}
+use Rattle.reader.specs.Passed.{Shows, Seen}
 use Rattle.reader.specs.Kinds.{least-number, most-number, closing-number}
-use Rattle.reader.specs.Runs.{RunRoom, Running, Ran, math-next, Proved, closing-of}
-use Rattle.reader.specs.Kept.{Words, with-row, RowRoom, next-state}
-use Rattle.reader.specs.Held.{Reached, Held, Begun, Stated, Turned}
+use Rattle.reader.specs.Runs.{RunRoom, Running, Ran, Proved, closing-of}
+use Rattle.reader.specs.Kept.{with-row, RowRoom, next-state}
+use Rattle.reader.specs.Held.{Reached, Held, Begun, Stated}
 use Rattle.reader.specs.declared.comment.Visible.{Visible}
 use Rattle.reader.specs.declared.comment.Visible.the-variants as vis
 use Rattle.reader.specs.declared.run.Run.{Run}
-use Rattle.reader.specs.declared.run.Closing.{Closing}
 use Rattle.reader.specs.declared.run.Closing.the-variants as closing′
 use Rattle.reader.specs.declared.state.State.{State}
 use Rattle.reader.specs.declared.state.Head.{Head}

@@ -1,22 +1,20 @@
 -- The grammar over stretches of visible tokens, and what it says of the whole text: a refusal, or the items.
 -- Assumes nothing.
 use mathlib.Core.Path.{_≡_, refl, sym, ap, _∙_}
-use mathlib.Core.Bool.{Bool, true, false}
+use mathlib.Core.Bool.{true, false}
 use mathlib.Core.List.{List, [], _∷_, _++_, append-assoc, append-nil}
-use mathlib.Core.Option.{Option, none, some}
-use Prim.Native.Nat.{ℕ, zero, suc, _+_, _*_, _<_, _≤_}
-use native.Mathlib.Nat.{add-zero, add-suc, suc-add}
+use Prim.Native.Nat.{ℕ, suc, _+_, _<_, _≤_}
+use native.Mathlib.Nat.{add-zero}
 use native.Mathlib.Omega.{arith}
-use lib.Dec.{leb, ltb}
 use lib.ListN.{length, length-append}
-use Rattle.paper.specs.Base.{choose, and, sameb, all}
-use Rattle.paper.specs.Tokens.{Token, run, toks, tokens, key, math-token, label-token}
+use Rattle.paper.specs.Base.{all}
+use Rattle.paper.specs.Tokens.{Token, tokens, key, math-token, label-token}
 use Rattle.paper.specs.Comments.{Place, outside, inside, after, visible}
-use Rattle.paper.specs.Statements.{Kind, Item, opens, closes}
-use Rattle.paper.specs.Reader.{Mode, start, named, math, proof, Step, go, stop, plain-kind, label-kind, room, least, closing, statement, shut, begin, keyword, closed, allow, with-items, many, Outcome, refused, given, finish, close, ending, items}
-use Rattle.paper.specs.declared.Refusal.the-variants.{OpenComment, BadToken, OpenText}
+use Rattle.paper.specs.Statements.{Kind, Item, opens}
+use Rattle.paper.specs.Reader.{Mode, start, named, math, proof, Step, go, stop, plain-kind, label-kind, room, shut, begin, keyword, allow, with-items, many, refused, finish, ending, items}
+use Rattle.paper.specs.declared.Refusal.the-variants.{OpenComment, BadToken}
 use Rattle.paper.proofs.Tests.{split, clash}
-use Rattle.paper.proofs.Comments.{after-append, visible-append, visible-few}
+use Rattle.paper.proofs.Comments.{after-append, visible-append}
 use Rattle.paper.proofs.Keys.{label-no-key}
 use Rattle.token.specs.Words.{tokens-from, token-of}
 use Rattle.token.specs.declared.cursor.Span.{Span}

@@ -1,29 +1,28 @@
 -- One item: a label and its keyword, a plain keyword, `${`, `$}`, or a token that the grammar does not allow.
 -- Assumes nothing.
 use mathlib.Core.Path.{_≡_, refl, sym, ap, _∙_}
-use mathlib.Core.Bool.{Bool, true, false}
+use mathlib.Core.Bool.{true, false}
 use mathlib.Core.List.{List, [], _∷_, _++_, append-nil}
 use mathlib.Core.Option.{Option, none, some}
-use Prim.Native.Nat.{ℕ, zero, suc, _+_, _-_, _*_, _<_, _≤_}
+use Prim.Native.Nat.{ℕ, zero, suc, _+_, _-_, _<_, _≤_}
 use native.Mathlib.Nat.{not-suc-le-zero}
 use native.Mathlib.Omega.{arith}
 use lib.ListN.{length, take, drop, set, length-drop}
 use lib.Seq.{length-take-le}
 use borrow.Author.Tests.{le-leb, lt-leb}
-use Rattle.paper.specs.Base.{choose}
 use Rattle.paper.specs.Tokens.{Token, tokens, key, label-token}
 use Rattle.paper.specs.Comments.{outside, inside}
-use Rattle.paper.specs.Statements.{Kind, $c, $v, $d, $f, $e, $a, $p, labelled, Item, opens, closes}
-use Rattle.paper.specs.Reader.{Mode, start, named, math, Step, go, stop, plain-kind, label-kind, shut, begin, keyword, allow, with-items, refused, items}
+use Rattle.paper.specs.Statements.{Kind, $c, $v, $d, $f, $e, $a, $p, labelled, opens, closes}
+use Rattle.paper.specs.Reader.{start, named, math, Step, go, stop, plain-kind, label-kind, shut, begin, keyword, refused, items}
 use Rattle.paper.specs.declared.Refusal.the-variants.{OpenComment, BadToken, OpenText}
 use Rattle.paper.proofs.Tests.{split, by-option, clash}
 use Rattle.area.specs.Cells.{bucket-cell}
 use Rattle.token.specs.Words.{tokens-from, token-of}
 use Rattle.token.specs.declared.cursor.Span.{Span}
-use Rattle.reader.specs.Rows.{kind-number, Stands}
+use Rattle.reader.specs.Rows.{kind-number}
 use Rattle.reader.specs.Passed.{Passed, Shows}
 use Rattle.reader.specs.Kinds.{code}
-use Rattle.reader.specs.Kept.{Words, EventRoom, opened, shut-one}
+use Rattle.reader.specs.Kept.{EventRoom, opened, shut-one}
 use Rattle.reader.specs.Held.{Reached, Held, Begun, Turned, Taken}
 use Rattle.reader.specs.declared.state.State.{State}
 use Rattle.reader.specs.declared.state.Turn.{Turn}

@@ -2,28 +2,27 @@
 -- Assumes nothing.
 use mathlib.Core.Path.{_≡_, refl, sym, ap, _∙_}
 use mathlib.Core.Logic.{_≢_}
-use mathlib.Core.Bool.{Bool, true, false}
+use mathlib.Core.Bool.{true}
 use mathlib.Core.List.{List, [], _∷_, _++_, append-nil}
-use Prim.Native.Nat.{ℕ, zero, suc, _+_, _-_, _*_, _<_, _≤_, zero-le}
+use Prim.Native.Nat.{ℕ, _+_, _-_, _*_, _<_, _≤_}
 use native.Mathlib.Nat.{le-refl, not-suc-le-zero}
 use native.Mathlib.Numerals.{add-one}
 use native.Mathlib.Omega.{arith}
-use lib.Dec.{eqb, ltb}
+use lib.Dec.{ltb}
 use lib.ListN.{length, getD, take, drop, set, replicate, length-append, length-set, take-append-drop, List·getD-append, getD-replicate, length-replicate, List·getD-eq-default}
-use lib.Seq.{take-suc, take-at, take-append-le, take-length, take-all, getD-at, length-sets}
-use borrow.Author.Tests.{ltb-true, ltb-false, eqb-true}
-use Rattle.paper.specs.Base.{gather, all}
-use Rattle.paper.specs.Tokens.{Token, toks, tokens, math-token}
+use lib.Seq.{take-suc, take-at, take-append-le, take-length, getD-at, length-sets}
+use borrow.Author.Tests.{ltb-true, ltb-false}
+use Rattle.paper.specs.Base.{gather}
+use Rattle.paper.specs.Tokens.{Token, toks, tokens}
 use Rattle.paper.specs.Comments.{outside, visible}
-use Rattle.paper.specs.Statements.{Kind, labelled, Statement, none-end, Item, opens, closes, states}
-use Rattle.paper.specs.Checks.{token, no-token}
-use Rattle.paper.proofs.Tests.{split, eqb-ne}
+use Rattle.paper.specs.Statements.{Kind, labelled, Statement, none-end, Item, states}
+use Rattle.paper.proofs.Tests.{split}
 use Rattle.paper.proofs.Lists.{gather-append}
-use Rattle.area.specs.Cells.{statement-cell, bucket-cell, math-cell, word, Only}
+use Rattle.area.specs.Cells.{statement-cell, bucket-cell, math-cell, word}
 use Rattle.area.proofs.Laws.{word-same, word-other}
 use Rattle.token.specs.Words.{tokens-from}
 use Rattle.token.proofs.Parts.{part-tokens}
-use Rattle.reader.specs.Rows.{stmt, before, kind-number, Stands, label-of, no-statement}
+use Rattle.reader.specs.Rows.{stmt, before, kind-number, Stands, no-statement}
 use Rattle.reader.specs.Passed.{Passed, Gap}
 use Rattle.reader.specs.Runs.{Running}
 use Rattle.reader.specs.Kept.{stated-by, stated, event, no-item, Row, Words, with-row}

@@ -6,3 +6,4 @@ pub mod Grammar
 pub mod Bodies
 pub mod Items
 pub mod Backs
+pub mod Wholes

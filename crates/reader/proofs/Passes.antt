@@ -1,13 +1,13 @@
 -- What is passed, one stretch after the other; a single token; the end of the text.
 -- Assumes nothing.
 use mathlib.Core.Path.{_≡_, refl, sym, ap, _∙_}
-use mathlib.Core.Bool.{Bool, true, false}
+use mathlib.Core.Bool.{true, false}
 use mathlib.Core.List.{List, [], _∷_, _++_, append-assoc}
-use Prim.Native.Nat.{ℕ, suc, _+_, _<_, _≤_}
+use Prim.Native.Nat.{ℕ, _+_, _<_, _≤_}
 use native.Mathlib.Omega.{arith}
-use lib.ListN.{length, drop, length-append}
+use lib.ListN.{length, length-append}
 use lib.Seq.{drop-length}
-use Rattle.paper.specs.Tokens.{Token, run, toks, tokens, key}
+use Rattle.paper.specs.Tokens.{Token, run, toks, key}
 use Rattle.paper.specs.Comments.{Place, outside, inside, next, after, shown, visible}
 use Rattle.paper.proofs.Comments.{after-append, visible-append, visible-few}
 use Rattle.paper.proofs.Keys.{math-no-key}

@@ -1,27 +1,26 @@
 -- Runs of math tokens: the start, one more token, what ends them; a proof's run; how a run closes.
 -- Assumes nothing.
-use mathlib.Core.Path.{_≡_, refl, sym, ap, _∙_}
-use mathlib.Core.Logic.{_≢_}
+use mathlib.Core.Path.{_≡_, refl, sym, _∙_}
 use mathlib.Core.Bool.{Bool, true, false}
 use mathlib.Core.List.{List, [], _∷_, _++_}
-use Prim.Native.Nat.{ℕ, zero, suc, _+_, _-_, _*_, _<_, _≤_, zero-le}
+use Prim.Native.Nat.{ℕ, _+_, _-_, _<_, zero-le}
 use native.Mathlib.Nat.{le-refl, not-suc-le-zero}
 use native.Mathlib.Omega.{arith}
-use lib.Dec.{eqb, leb, ltb}
-use lib.ListN.{length, getD, take, drop, set, length-append, length-take, length-drop, List·getD-append}
+use lib.Dec.{leb, ltb}
+use lib.ListN.{length, getD, take, drop, set, length-append, length-drop, List·getD-append}
 use lib.Seq.{getD-at, length-take-le}
-use borrow.Author.Tests.{eqb-true, le-leb, lt-leb, le-ltb, ltb-true, ltb-false}
-use Rattle.paper.specs.Base.{choose, and, all}
-use Rattle.paper.specs.Tokens.{Token, toks, math-token}
+use borrow.Author.Tests.{le-leb, lt-leb, ltb-true, ltb-false}
+use Rattle.paper.specs.Base.{and, all}
+use Rattle.paper.specs.Tokens.{math-token}
 use Rattle.paper.specs.Comments.{outside}
 use Rattle.paper.specs.Checks.{no-token}
-use Rattle.paper.proofs.Tests.{split, eqb-ne}
-use Rattle.area.specs.Cells.{math-cell, word, Only}
+use Rattle.paper.proofs.Tests.{split}
+use Rattle.area.specs.Cells.{math-cell, word}
 use Rattle.area.proofs.Laws.{word-same, word-other, only-none, only-set, only-then, only-wide}
 use Rattle.token.specs.Words.{tokens-from, token-of, Spans}
 use Rattle.token.specs.declared.cursor.Span.{Span}
 use Rattle.reader.specs.Rows.{Stands}
-use Rattle.reader.specs.Passed.{Passed, Gap, Shows}
+use Rattle.reader.specs.Passed.{Shows}
 use Rattle.reader.specs.Runs.{RunRoom, Running, Proving}
 use Rattle.reader.proofs.Passes.{passed-none, passed-then, passed-few, passed-shows}
 

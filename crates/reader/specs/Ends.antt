@@ -7,7 +7,7 @@ use Prim.Native.Nat.{ℕ, zero, suc, _+_, _-_, _*_, _<_, _≤_}
 use lib.Dec.{eqb}
 use lib.ListN.{length, getD, drop, set}
 use Rattle.paper.specs.Base.{choose}
-use Rattle.paper.specs.Statements.{Statement, Item, top, closers, ends}
+use Rattle.paper.specs.Statements.{Item, top, closers, ends}
 use Rattle.area.specs.Cells.{statement-cell, bucket-cell, word}
 use Rattle.reader.specs.Rows.{stmt}
 use Rattle.reader.specs.Kept.{stated, event, no-item}

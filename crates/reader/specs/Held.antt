@@ -1,14 +1,14 @@
 -- What is known between two items of a text, and what reading the next one promises.
 -- `t` is the text, `w` and `v` the words before and after, `n` is N + 1.
 use mathlib.Core.Path.{_≡_}
-use mathlib.Core.Bool.{Bool, true}
+use mathlib.Core.Bool.{true}
 use mathlib.Core.List.{List, []}
 use Prim.Native.Nat.{ℕ, _+_, _<_, _≤_}
 use lib.ListN.{length}
 use Rattle.paper.specs.Tokens.{Token, tokens}
 use Rattle.paper.specs.Comments.{outside}
 use Rattle.paper.specs.Statements.{Kind, $p, labelled, Item}
-use Rattle.paper.specs.Reader.{Mode, start, math, proof, Step, go, many, refused, items}
+use Rattle.paper.specs.Reader.{start, math, proof, Step, go, many, refused, items}
 use Rattle.token.specs.Words.{tokens-from}
 use Rattle.reader.specs.Rows.{kind-number, Stands}
 use Rattle.reader.specs.Passed.{Passed, Gap}

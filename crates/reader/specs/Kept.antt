@@ -1,8 +1,7 @@
 -- What the words hold while a text is read: the rows of the statements read so far, without their ends, and one word for each item.
 -- `t` is the text, `w` the words, `n` is N + 1, `i` the items read so far.
 use mathlib.Core.Path.{_≡_}
-use mathlib.Core.Logic.{_≢_}
-use mathlib.Core.Bool.{Bool, true}
+use mathlib.Core.Bool.{true}
 use mathlib.Core.List.{List, [], _∷_}
 use Prim.Native.Nat.{ℕ, _+_, _-_, _*_, _<_, _≤_}
 use lib.ListN.{length, getD, take, drop}

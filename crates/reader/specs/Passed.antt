@@ -1,8 +1,8 @@
 -- What is passed between two offsets of a text: the tokens outside comments, and the place of comments before and after.
 -- Each answer of the functions that look for tokens says what was passed.
 use mathlib.Core.Path.{_≡_}
-use mathlib.Core.Bool.{Bool, true, false}
-use mathlib.Core.List.{List, [], _∷_, _++_}
+use mathlib.Core.Bool.{true, false}
+use mathlib.Core.List.{List, [], _++_}
 use Prim.Native.Nat.{ℕ, _<_, _≤_}
 use lib.ListN.{length, getD}
 use Rattle.paper.specs.Bytes.{white}

@@ -2,7 +2,7 @@
 -- `t` is the text, `w` and `v` the words before and after, `n` is N + 1.
 use mathlib.Core.Path.{_≡_}
 use mathlib.Core.Bool.{Bool, true, false}
-use mathlib.Core.List.{List, [], _∷_}
+use mathlib.Core.List.{List}
 use Prim.Native.Nat.{ℕ, _+_, _*_, _<_, _≤_}
 use lib.Dec.{leb, ltb}
 use lib.ListN.{length, getD}

@@ -1,8 +1,8 @@
 -- What reading a whole text promises: with its items, with the ends of its statements, and with all of numbers 1 to 6.
 -- `t` is the text, `w` and `v` the words before and after, `n` is N + 1.
 use mathlib.Core.Path.{_≡_}
-use mathlib.Core.List.{List, []}
-use Prim.Native.Nat.{ℕ, _+_, _*_, _<_, _≤_}
+use mathlib.Core.List.{List}
+use Prim.Native.Nat.{ℕ, _+_, _*_, _<_}
 use lib.ListN.{length, replicate}
 use Rattle.paper.specs.Tokens.{tokens}
 use Rattle.paper.specs.Statements.{Statement, Item}
@@ -12,8 +12,8 @@ use Rattle.paper.specs.declared.Reading.the-variants.{Read, Unread}
 use Rattle.reader.specs.Rows.{before, Rows}
 use Rattle.reader.specs.Kept.{Words}
 use Rattle.reader.specs.declared.state.State.{State}
-use Rattle.reader.specs.declared.read.All.{All}
-use Rattle.reader.specs.declared.read.All.the-variants as every
+use Rattle.reader.specs.declared.whole.All.{All}
+use Rattle.reader.specs.declared.whole.All.the-variants as every
 
 pub record Finished (t v : List ℕ) (n : ℕ) (s : State) : Type 0 where
   pub found : List Item

@@ -1,11 +1,10 @@
-use mathlib.Core.Path.{sym, _∙_}
 use mathlib.Core.List.{[]}
 use Prim.Native.Nat.{_≤_}
 use native.Mathlib.Omega.{arith}
 use lib.ListN.{length}
 use Rattle.paper.specs.Comments.{outside}
 use Rattle.token.specs.Words.{tokens-from}
-use Rattle.reader.specs.Passed.{Passed, Looked}
+use Rattle.reader.specs.Passed.{Passed}
 use Rattle.reader.proofs.Passes.{passed-none, passed-then, shows-after}
 use borrow.Author.Needs.{needs}
 use Rattle.reader.proofs.comment.next_visible.Statement.{statement}

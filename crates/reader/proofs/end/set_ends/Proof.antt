@@ -1,5 +1,5 @@
 use mathlib.Core.Path.{_≡_}
-use Prim.Native.Nat.{ℕ, suc, _-_}
+use Prim.Native.Nat.{suc, _-_}
 use native.Mathlib.Omega.{arith}
 use Rattle.reader.specs.Ends.{Backward}
 use Rattle.reader.proofs.Backs.{back-start, back-room, back-step, back-end}

@@ -1,4 +1,3 @@
-use mathlib.Core.Path.{sym, _∙_}
 use native.Mathlib.Omega.{arith}
 use Rattle.reader.specs.Passed.{Shows}
 use Rattle.reader.proofs.Items.{label-end, label-open, label-bad, label-begun}
