@@ -1,14 +1,14 @@
 -- Keywords: a list compared with two bytes, byte by byte; a keyword is neither a math token nor a label token.
 -- Assumes nothing.
-use mathlib.Core.Path.{_≡_, refl, sym, _∙_}
-use mathlib.Core.Bool.{Bool, true, false}
+use mathlib.Core.Path.{_≡_, refl, sym}
+use mathlib.Core.Bool.{true, false}
 use mathlib.Core.List.{List, [], _∷_}
-use Prim.Native.Nat.{ℕ, zero, suc, _<_, _≤_}
+use Prim.Native.Nat.{ℕ}
 use native.Mathlib.Omega.{arith}
 use lib.Dec.{eqb}
 use lib.ListN.{length, getD}
-use borrow.Author.Tests.{eq-eqb, ne-eqb, eqb-true}
-use Rattle.paper.specs.Base.{choose, and, not, sameb, all}
+use borrow.Author.Tests.{eq-eqb, ne-eqb}
+use Rattle.paper.specs.Base.{sameb, all}
 use Rattle.paper.specs.Bytes.{math-byte, label-byte, printable}
 use Rattle.paper.specs.Tokens.{Token, key, math-token, label-token}
 use Rattle.paper.proofs.Tests.{split, same-eq, clash}

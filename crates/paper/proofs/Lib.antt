@@ -15,3 +15,4 @@ pub mod Searches
 pub mod Sums
 pub mod Gather
 pub mod Made
+pub mod Comments

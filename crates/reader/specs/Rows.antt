@@ -1,7 +1,7 @@
 -- What the words of the work area say of the statements of a text, once it is read.
 -- `t` is the text, `w` the words, `n` is N + 1, `l` the statements.
 use mathlib.Core.Path.{_≡_}
-use mathlib.Core.Bool.{Bool, true}
+use mathlib.Core.Bool.{true}
 use mathlib.Core.List.{List, [], _∷_}
 use Prim.Native.Nat.{ℕ, _+_, _-_, _*_, _<_, _≤_}
 use lib.ListN.{length, getD, take, drop}

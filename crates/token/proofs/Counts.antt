@@ -3,24 +3,23 @@
 use mathlib.Core.Path.{_≡_, refl, sym, ap, _∙_}
 use mathlib.Core.Bool.{Bool, true, false}
 use mathlib.Core.List.{List, [], _∷_}
-use mathlib.Core.Option.{Option, none, some}
-use Prim.Native.Nat.{ℕ, zero, suc, _+_, _-_, _<_, _≤_, zero-le}
+use mathlib.Core.Option.{none, some}
+use Prim.Native.Nat.{ℕ, suc, _+_, _-_, _<_, _≤_, zero-le}
 use native.Mathlib.Nat.{add-zero}
 use native.Mathlib.Numerals.{add-one}
 use native.Mathlib.Omega.{arith}
 use lib.Dec.{eqb, ltb}
 use lib.ListN.{length, getD, drop, drop-of-length-le, length-drop}
 use lib.Seq.{drop-cons}
-use Rattle.paper.specs.Base.{or, not, choose}
+use Rattle.paper.specs.Base.{or}
 use Rattle.paper.specs.Bytes.{white, printable}
-use Rattle.paper.specs.Tokens.{Token, put, prefix, run, toks, tokens, bad-from}
+use Rattle.paper.specs.Tokens.{run, toks, tokens, bad-from}
 use Rattle.paper.proofs.Tests.{split}
 use Rattle.token.specs.Class.{class}
 use Rattle.token.specs.Words.{tokens-from}
 use Rattle.token.specs.Count.{bit, starts, bads, tally-of, bad-of, count-of}
 use Rattle.token.specs.declared.count.Bad.{Bad}
-use Rattle.token.specs.declared.count.Bad.the-variants.{At, Nowhere}
-use Rattle.token.specs.declared.count.Counted.{Counted}
+use Rattle.token.specs.declared.count.Bad.the-variants.{Nowhere}
 use Rattle.token.specs.declared.count.Tally.{Tally}
 use Rattle.token.proofs.Classes.{class-white, class-bad}
 

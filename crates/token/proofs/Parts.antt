@@ -1,7 +1,7 @@
 -- The tokens of a part of the text that stops at white space or at the text's end are tokens of the text, with their offsets moved.
 -- Assumes nothing.
-use mathlib.Core.Path.{_≡_, refl, sym, ap, _∙_}
-use mathlib.Core.Bool.{Bool, true, false}
+use mathlib.Core.Path.{_≡_, refl, _∙_}
+use mathlib.Core.Bool.{true}
 use mathlib.Core.List.{List, [], _∷_, _++_, map}
 use Prim.Native.Nat.{ℕ, zero, suc, _+_, _-_, _<_, _≤_}
 use native.Mathlib.Nat.{add-zero, add-suc, suc-add, sub-zero, not-suc-le-zero, le-of-suc-le-suc}
@@ -9,7 +9,7 @@ use native.Mathlib.Omega.{arith}
 use lib.ListN.{length, getD, take, drop, length-drop}
 use lib.Seq.{drop-drop, getD-drop, take-nil}
 use Rattle.paper.specs.Bytes.{white}
-use Rattle.paper.specs.Tokens.{Token, put, prefix, run, toks, tokens}
+use Rattle.paper.specs.Tokens.{Token, put, run, toks}
 use Rattle.paper.proofs.Tests.{split}
 use Rattle.token.specs.Words.{tokens-from, move}
 
@@ -53,6 +53,16 @@ unfolding toks
 toks-move l k o =
     let r = run-move l k o in rw (r .0, r .1) (put-move k o (run l o .head) (run l o .rest))
 
+-- the text is cut at white space or at its end
+pub part-tokens : (t : List ℕ) (a b : ℕ) → a ≤ b → b ≤ length t → (b < length t → white (getD t b 0) ≡ true)
+    → tokens-from t a ≡ toks (take (b - a) (drop a t)) a ++ tokens-from t b
+unfolding tokens-from
+part-tokens t a b h k e =
+    let q : a + (b - a) ≡ b = omega arith in
+    let l : length (drop a t) ≡ length t - a = length-drop a t in
+    let w : b - a < length (drop a t) → white (getD (drop a t) (b - a) 0) ≡ true = λ m. rw (getD-drop, q) (e (omega arith)) in
+    toks-part (drop a t) (b - a) a (omega arith) w ∙ rw (drop-drop (b - a) a t, q)
+
 drop-take : (l : List ℕ) (n i : ℕ) → drop i (take n l) ≡ take (n - i) (drop i l)
 drop-take l n zero = rw sub-zero
 drop-take [] n (suc i) = rw (take-nil n, take-nil (n - suc i))
@@ -64,12 +74,8 @@ pub tokens-part : (t : List ℕ) (a b i : ℕ) → a + i ≤ b → b ≤ length 
     → tokens-from t (a + i) ≡ map (move a) (tokens-from (take (b - a) (drop a t)) i) ++ tokens-from t b
 unfolding tokens-from
 tokens-part t a b i h k e =
-    let n = (b - a) - i in
-    let q : (a + i) + n ≡ b = omega arith in
-    let l : length (drop (a + i) t) ≡ length t - (a + i) = length-drop (a + i) t in
-    let w : n < length (drop (a + i) t) → white (getD (drop (a + i) t) n 0) ≡ true = λ m. rw (getD-drop, q) (e (omega arith)) in
-    let p : toks (drop (a + i) t) (a + i) ≡ toks (take n (drop (a + i) t)) (a + i) ++ toks (drop n (drop (a + i) t)) ((a + i) + n) = toks-part (drop (a + i) t) n (a + i) (omega arith) w in
     let c : a + i ≡ i + a = omega arith in
-    let m : toks (take n (drop (a + i) t)) (a + i) ≡ map (move a) (toks (drop i (take (b - a) (drop a t))) i) =
-    rw (drop-take (drop a t) (b - a) i, drop-drop i a t, c) (toks-move (take n (drop (i + a) t)) a i) in
-    p ∙ rw (m, drop-drop n (a + i) t, q)
+    let n : b - (a + i) ≡ (b - a) - i = omega arith in
+    let m : toks (take (b - (a + i)) (drop (a + i) t)) (a + i) ≡ map (move a) (toks (drop i (take (b - a) (drop a t))) i) =
+    rw (drop-take (drop a t) (b - a) i, drop-drop i a t, n, c) (toks-move (take ((b - a) - i) (drop (i + a) t)) a i) in
+    part-tokens t (a + i) b h k e ∙ rw m

@@ -1,24 +1,23 @@
 -- What an answer of the cursor tells a caller: this is all that a crate above needs of the cursor.
 -- Assumes nothing.
 use mathlib.Core.Path.{_≡_, refl, sym, ap, _∙_}
-use mathlib.Core.Bool.{Bool, true, false}
-use mathlib.Core.List.{List, [], _∷_}
-use Prim.Native.Nat.{ℕ, zero, suc, _+_, _-_, _<_, _≤_}
+use mathlib.Core.Bool.{false}
+use mathlib.Core.List.{List, []}
+use Prim.Native.Nat.{ℕ, _<_}
 use native.Mathlib.Omega.{arith}
-use lib.Dec.{leb, ltb}
+use lib.Dec.{ltb}
 use borrow.Author.Tests.{ltb-true, ltb-false}
-use lib.ListN.{length, getD, take, drop, length-drop}
+use lib.ListN.{length, getD, drop}
 use Rattle.paper.specs.Bytes.{white}
-use Rattle.paper.specs.Tokens.{Token, tokens, label-token, math-token}
+use Rattle.paper.specs.Tokens.{Token, label-token, math-token}
 use Rattle.paper.proofs.Tests.{split}
 use Rattle.token.specs.Class.{least}
-use Rattle.token.specs.Words.{word, past-gap, span-from, tokens-from, token-at, next-of}
+use Rattle.token.specs.Words.{Spans, Read, word, past-gap, span-from, tokens-from, next-of}
 use Rattle.token.specs.declared.cursor.Span.{Span}
 use Rattle.token.specs.declared.cursor.Cursor.{Cursor}
-use Rattle.token.specs.declared.cursor.Next.{Next}
 use Rattle.token.specs.declared.cursor.Next.the-variants as next
 use Rattle.token.proofs.Classes.{least-label, least-math}
-use Rattle.token.proofs.Words.{tokens-done, from-gap, stop-of, token-bytes, token-some, token-within, token-closed, gap-stops, tokens-next}
+use Rattle.token.proofs.Words.{tokens-skip, token-first, tokens-done, from-gap, stop-of, token-bytes, token-some, token-within, token-closed, gap-stops, tokens-next}
 
 -- the cursor's answer, from what its steps answer
 pub next-is : (t : List ℕ) (i s : ℕ) (x : Span) → s ≡ past-gap t i → s < length t → x ≡ span-from t s s 4
@@ -26,27 +25,14 @@ pub next-is : (t : List ℕ) (i s : ℕ) (x : Span) → s ≡ past-gap t i → s
 unfolding span-from
 next-is t i s x p h q = rw (q, p) (sym (ap next-of (tokens-next t i (rw p at h))))
 
-pub record Read (t : List ℕ) (i : ℕ) (x : Span) (c : Cursor) : Type 0 where
-  pub rest : tokens-from t i ≡ token-at t (x .start) (x .stop) ∷ tokens-from t (c .at)
-  pub stands : c .at ≡ x .stop
-  pub from : i ≤ x .start
-  pub some : x .start < x .stop
-  pub within : x .stop ≤ length t
-  pub closed : x .stop < length t → white (getD t (x .stop) 0) ≡ true
-  pub label : leb 4 (x .least) ≡ label-token (token-at t (x .start) (x .stop))
-  pub math : leb 3 (x .least) ≡ math-token (token-at t (x .start) (x .stop))
-
 -- the answer at a token that starts at s
-found : (t : List ℕ) (i s : ℕ) → s ≡ past-gap t i → s < length t
-    → Read t i (record { start = s; stop = stop-of t s; least = least (word (drop s t)) 4 }) (record { at = stop-of t s })
+span-at : (t : List ℕ) (s : ℕ) → s < length t → white (getD t s 0) ≡ false
+    → Spans t (record { start = s; stop = stop-of t s; least = least (word (drop s t)) 4 })
 unfolding label-token math-token
-found t i s p h =
-    let g : white (getD t s 0) ≡ false = rw p (gap-stops t i (rw p at h)) in
+span-at t s h g =
     let b = token-bytes t s h g in
     record {
-      rest = rw (← b, p) (tokens-next t i (rw p at h));
-      stands = refl;
-      from = omega (arith, p, from-gap t i);
+      here = rw (← b) (token-first t s h g);
       some = token-some t s h g;
       within = token-within t s h g;
       closed = token-closed t s h g;
@@ -63,7 +49,7 @@ read-token t i x c p =
     let q : next.Token x c ≡ next.Token (record { start = s; stop = stop-of t s; least = least (word (drop s t)) 4 }) (record { at = stop-of t s }) = p ∙ ap next-of (tokens-next t i h) in
     let ex : x ≡ record { start = s; stop = stop-of t s; least = least (word (drop s t)) 4 } = cc in
     let ec : c ≡ record { at = stop-of t s } = cc in
-    rw (ex, ec) (found t i s refl h))
+    rw (ex, ec) (record { skip = tokens-skip t i; stands = refl; from = from-gap t i; whole = span-at t s h (gap-stops t i h) }))
     (λ b.
     let q : next.Token x c ≡ next.Done = p ∙ ap next-of (tokens-done t i (ltb-false _ _ b)) in
     let z : _≡_ {A = ℕ} 0 1 = cc in

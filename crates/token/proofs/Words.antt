@@ -1,20 +1,19 @@
 -- The tokens from an offset on, byte by byte and token by token: white space is passed, and the first word is the first token.
 -- Assumes nothing.
-use mathlib.Core.Path.{_≡_, refl, sym, ap, _∙_}
-use mathlib.Core.Bool.{Bool, true, false}
+use mathlib.Core.Path.{_≡_, refl, ap, _∙_}
+use mathlib.Core.Bool.{true, false}
 use mathlib.Core.List.{List, [], _∷_}
-use Prim.Native.Nat.{ℕ, zero, suc, _+_, _-_, _<_, _≤_, zero-le, suc-le-suc}
+use Prim.Native.Nat.{ℕ, suc, _+_, _-_, _<_, _≤_, zero-le, suc-le-suc}
 use native.Mathlib.Nat.{add-zero, add-suc, suc-add, not-suc-le-zero}
 use native.Mathlib.Numerals.{add-one}
 use native.Mathlib.Omega.{arith}
 use lib.ListN.{length, getD, take, drop, drop-of-length-le, length-drop}
 use lib.Seq.{drop-cons, drop-drop, getD-drop}
 use Rattle.paper.specs.Bytes.{white}
-use Rattle.paper.specs.Tokens.{Token, Run, put, prefix, run, toks}
+use Rattle.paper.specs.Tokens.{Token, put, run, toks}
 use Rattle.paper.proofs.Tests.{split}
 use Rattle.token.specs.Class.{class, lower, least}
-use Rattle.token.specs.Words.{gap, word, past-gap, span-from, tokens-from, token-at}
-use Rattle.token.specs.declared.cursor.Span.{Span}
+use Rattle.token.specs.Words.{gap, word, past-gap, span-from, tokens-from}
 
 -- ---- byte by byte: at the end, where it stops, where it goes on
 module _ (t : List ℕ) (i : ℕ) where
@@ -109,7 +108,7 @@ gap-closed (b ∷ l) h =
 
 -- ---- token by token, by the offset
 module _ (t : List ℕ) (i : ℕ) where
-  tokens-skip : tokens-from t i ≡ tokens-from t (past-gap t i)
+  pub tokens-skip : tokens-from t i ≡ tokens-from t (past-gap t i)
   unfolding tokens-from past-gap
   tokens-skip = toks-gap (drop i t) i ∙ rw drop-drop
 

@@ -6,7 +6,6 @@ use mathlib.Core.Option.{Option, none, some}
 use Prim.Native.Nat.{ℕ, _+_}
 use lib.Dec.{eqb, ltb}
 use lib.ListN.{length}
-use Rattle.paper.specs.Base.{choose}
 use Rattle.paper.specs.Tokens.{tokens, bad-from}
 use Rattle.token.specs.Class.{class}
 use Rattle.token.specs.declared.count.Bad.{Bad}

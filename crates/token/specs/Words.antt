@@ -1,13 +1,17 @@
 -- Tokens by offsets: where the white space at an offset stops, where the token there stops, and the tokens from an offset on.
--- What the cursor answers is the first of those tokens.
+-- What the cursor answers is the first of those tokens; `Spans` and `Read` say all that a crate above needs of it.
+use mathlib.Core.Path.{_≡_}
+use mathlib.Core.Bool.{true}
 use mathlib.Core.List.{List, [], _∷_}
-use Prim.Native.Nat.{ℕ, suc, _+_, _-_}
-use lib.ListN.{length, take, drop}
+use Prim.Native.Nat.{ℕ, suc, _+_, _-_, _<_, _≤_}
+use lib.Dec.{leb}
+use lib.ListN.{length, getD, take, drop}
 use Rattle.paper.specs.Base.{choose}
 use Rattle.paper.specs.Bytes.{white}
-use Rattle.paper.specs.Tokens.{Token, toks}
+use Rattle.paper.specs.Tokens.{Token, toks, label-token, math-token}
 use Rattle.token.specs.Class.{least}
 use Rattle.token.specs.declared.cursor.Span.{Span}
+use Rattle.token.specs.declared.cursor.Cursor.{Cursor}
 use Rattle.token.specs.declared.cursor.Next.{Next}
 use Rattle.token.specs.declared.cursor.Next.the-variants as next
 
@@ -36,6 +40,9 @@ tokens-from t i = toks (drop i t) i
 abbrev pub token-at : List ℕ → ℕ → ℕ → Token
 token-at t s e = record { at = s; bytes = take (e - s) (drop s t) }
 
+abbrev pub token-of : List ℕ → Span → Token
+token-of t x = token-at t (x .start) (x .stop)
+
 -- a token of a part of the text that starts at offset k, as a token of the text
 abbrev pub move : ℕ → Token → Token
 move k x = record { at = x .at + k; bytes = x .bytes }
@@ -46,3 +53,19 @@ span-of x = record { start = x .at; stop = x .at + length (x .bytes); least = le
 abbrev pub next-of : List Token → Next
 next-of [] = next.Done
 next-of (x ∷ r) = next.Token (span-of x) (record { at = x .at + length (x .bytes) })
+
+-- a span that is a token of the text
+pub record Spans (t : List ℕ) (x : Span) : Type 0 where
+  pub here : tokens-from t (x .start) ≡ token-of t x ∷ tokens-from t (x .stop)
+  pub some : x .start < x .stop
+  pub within : x .stop ≤ length t
+  pub closed : x .stop < length t → white (getD t (x .stop) 0) ≡ true
+  pub label : leb 4 (x .least) ≡ label-token (token-of t x)
+  pub math : leb 3 (x .least) ≡ math-token (token-of t x)
+
+-- the first token from offset i on
+pub record Read (t : List ℕ) (i : ℕ) (x : Span) (c : Cursor) : Type 0 where
+  pub skip : tokens-from t i ≡ tokens-from t (x .start)
+  pub stands : c .at ≡ x .stop
+  pub from : i ≤ x .start
+  pub whole : Spans t x

@@ -2,7 +2,6 @@ use mathlib.Core.Path.{refl}
 use Rattle.paper.specs.Base.{table}
 use Rattle.paper.specs.Bytes.{white, printable, label-byte}
 use Rattle.token.specs.Class.{class, classes}
-use borrow.Author.Needs.{needs}
 use Rattle.token.proofs.class.table.Statement.{statement}
 use Rattle.token.proofs.class.table.Tie as tie
 use Rattle.token.proofs.class.table.Reads as reads

@@ -1,5 +1,5 @@
-use mathlib.Core.Path.{_≡_, refl, sym, ap, _∙_}
-use Prim.Native.Nat.{ℕ, _-_, _+_}
+use mathlib.Core.Path.{_≡_, sym, ap, _∙_}
+use Prim.Native.Nat.{_-_}
 use lib.ListN.{length, drop}
 use Rattle.paper.specs.Tokens.{bad-from}
 use Rattle.token.specs.Count.{bad-of}

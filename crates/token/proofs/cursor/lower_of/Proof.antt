@@ -1,5 +1,4 @@
 use borrow.Author.Tests.{lt-ltb, le-ltb}
-use borrow.Author.Needs.{needs}
 use Rattle.token.proofs.cursor.lower_of.Statement.{statement}
 use Rattle.token.proofs.cursor.lower_of.Tie as tie
 use Rattle.token.proofs.cursor.lower_of.Reads as reads

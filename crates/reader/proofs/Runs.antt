@@ -1,0 +1,123 @@
+-- Runs of math tokens: the start, one more token, what ends them; a proof's run; how a run closes.
+-- Assumes nothing.
+use mathlib.Core.Path.{_≡_, refl, sym, _∙_}
+use mathlib.Core.Bool.{Bool, true, false}
+use mathlib.Core.List.{List, [], _∷_, _++_}
+use Prim.Native.Nat.{ℕ, _+_, _-_, _<_, zero-le}
+use native.Mathlib.Nat.{le-refl, not-suc-le-zero}
+use native.Mathlib.Omega.{arith}
+use lib.Dec.{leb, ltb}
+use lib.ListN.{length, getD, take, drop, set, length-append, length-drop, List·getD-append}
+use lib.Seq.{getD-at, length-take-le}
+use borrow.Author.Tests.{le-leb, lt-leb, ltb-true, ltb-false}
+use Rattle.paper.specs.Base.{and, all}
+use Rattle.paper.specs.Tokens.{math-token}
+use Rattle.paper.specs.Comments.{outside}
+use Rattle.paper.specs.Checks.{no-token}
+use Rattle.paper.proofs.Tests.{split}
+use Rattle.area.specs.Cells.{math-cell, word}
+use Rattle.area.proofs.Laws.{word-same, word-other, only-none, only-set, only-then, only-wide}
+use Rattle.token.specs.Words.{tokens-from, token-of, Spans}
+use Rattle.token.specs.declared.cursor.Span.{Span}
+use Rattle.reader.specs.Rows.{Stands}
+use Rattle.reader.specs.Passed.{Shows}
+use Rattle.reader.specs.Runs.{RunRoom, Running, Proving}
+use Rattle.reader.proofs.Passes.{passed-none, passed-then, passed-few, passed-shows}
+
+-- a span of the text stands there as a token
+pub stands-span : {t : List ℕ} {x : Span} → Spans t x → Stands t (token-of t x)
+unfolding tokens-from
+stands-span {t} {x} h =
+    let l : length (take (x .stop - x .start) (drop (x .start) t)) ≡ x .stop - x .start =
+    length-take-le (x .stop - x .start) (drop (x .start) t) (omega (arith, length-drop (x .start) t, h .within)) in
+    let q : x .start + (x .stop - x .start) ≡ x .stop = omega (arith, h .some) in
+    record {
+      here = rw (l, q) (h .here);
+      bytes = rw l refl;
+      some = omega (arith, l, h .some);
+      within = omega (arith, l, h .some, h .within);
+    }
+
+all-snoc : {A : Type 0} (f : A → Bool) (l : List A) (x : A) → all f l ≡ true → f x ≡ true → all f (l ++ (x ∷ [])) ≡ true
+unfolding all
+all-snoc f [] x h e = rw e
+all-snoc f (y ∷ l) x h e = split (f y) (λ q. rw q (all-snoc f l x (rw q at h) e)) (λ q. let z : false ≡ true = rw q at h in cc)
+
+-- what holds at each of a list's entries and of one more
+snoc-each : {A : Type 0} (d : A) (P : ℕ → A → Type 0) (l : List A) (x : A) → ((k : ℕ) → k < length l → P k (getD l k d)) → P (length l) x
+    → (k : ℕ) → k < length (l ++ (x ∷ [])) → P k (getD (l ++ (x ∷ [])) k d)
+snoc-each d P l x f g k h =
+    split (ltb k (length l))
+    (λ e. rw (List·getD-append l (x ∷ []) d k (ltb-true k (length l) e)) (f k (ltb-true k (length l) e)))
+    (λ e.
+    let q : k ≡ length l = omega (arith, ltb-false k (length l) e, length-append l (x ∷ [])) in
+    rw (getD-at l x [] d k (sym q), q) g)
+
+pub running-start : {t w : List ℕ} {n at first : ℕ} (most : ℕ) → RunRoom t w n at first → Running t w w n at most first at 0
+unfolding all
+running-start {t} {w} {n} {at} {first} most h =
+    record {
+      ms = [];
+      passed = passed-none t at outside;
+      counted = refl;
+      maths = refl;
+      upto = zero-le;
+      stored = λ k l. absurd (not-suc-le-zero l);
+      stand = λ k l. absurd (not-suc-le-zero l);
+      only = only-none (math-cell n first) (math-cell n (first + 0)) w;
+      onward = le-refl at;
+      within = h .within;
+      gap = h .gap;
+    }
+
+-- there is room for one more
+pub running-fits : {t w v : List ℕ} {n at most first stop count : ℕ} {x : Span} → RunRoom t w n at first → Running t w v n at most first stop count → Shows t stop x
+    → first + count < n
+running-fits r h s = omega (arith, r .few, h .counted, passed-few (h .passed), passed-few (passed-shows s))
+
+module _ {t w v u : List ℕ} {n at most first stop count : ℕ} {x : Span} (r : RunRoom t w n at first) (h : Running t w v n at most first stop count) (s : Shows t stop x) where
+  pub running-more : leb 3 (x .least) ≡ true → count < most → u ≡ set v (math-cell n (first + count)) (x .start)
+      → Running t w u n at most first (x .stop) (count + 1)
+  running-more e l q =
+      let room : math-cell n (first + count) < length v = omega (arith, running-fits r h s, r .room, h .only .len) in
+      let len : length (h .ms) ≡ count = h .counted in
+      record {
+        ms = h .ms ++ (token-of t x ∷ []);
+        passed = passed-then (h .passed) (passed-shows s);
+        counted = omega (arith, length-append (h .ms) (token-of t x ∷ []), len);
+        maths = all-snoc math-token (h .ms) (token-of t x) (h .maths) (sym (s .whole .math) ∙ e);
+        upto = omega arith;
+        stored = snoc-each no-token (λ k y. word u (math-cell n (first + k)) ≡ y .at) (h .ms) (token-of t x)
+            (λ k b. rw q (word-other v (math-cell n (first + count)) (math-cell n (first + k)) (x .start) (λ z. omega (arith, z, len))) ∙ h .stored k b)
+            (rw (q, len) (word-same v (math-cell n (first + count)) (x .start) room));
+        stand = snoc-each no-token (λ k y. Stands t y) (h .ms) (token-of t x) (h .stand) (stands-span (s .whole));
+        only = rw q (only-then (only-wide (le-refl (math-cell n first)) (omega arith) (h .only)) (only-set (math-cell n first) (math-cell n (first + (count + 1))) v (math-cell n (first + count)) (x .start) (omega arith) (omega arith)));
+        onward = omega (arith, h .onward, s .onward, s .whole .some);
+        within = s .whole .within;
+        gap = s .whole .closed;
+      }
+
+-- ---- a proof's run
+pub proving-start : (t : List ℕ) (at : ℕ) → Proving t at at 0
+unfolding all
+proving-start t at = record { ps = []; passed = passed-none t at outside; some = refl; maths = refl }
+
+pub proving-more : {t : List ℕ} {at stop count : ℕ} {x : Span} → Proving t at stop count → Shows t stop x → leb 3 (x .least) ≡ true → Proving t at (x .stop) 1
+proving-more {t} {at} {stop} {count} {x} h s e =
+    record {
+      ps = h .ps ++ (token-of t x ∷ []);
+      passed = passed-then (h .passed) (passed-shows s);
+      some = sym (le-leb 1 (length (h .ps ++ (token-of t x ∷ []))) (omega (arith, length-append (h .ps) (token-of t x ∷ []))));
+      maths = all-snoc math-token (h .ps) (token-of t x) (h .maths) (sym (s .whole .math) ∙ e);
+    }
+
+-- ---- what ends a run: no math token, or enough of them
+pub not-math : {t : List ℕ} {stop : ℕ} {x : Span} → Shows t stop x → x .least < 3 → math-token (token-of t x) ≡ false
+not-math {t} {stop} {x} s l = sym (s .whole .math) ∙ lt-leb 3 (x .least) l
+
+pub and-left : (a b : Bool) → a ≡ false → and a b ≡ false
+and-left a b e = rw e
+
+pub and-right : (a b : Bool) → b ≡ false → and a b ≡ false
+and-right true b e = e
+and-right false b e = refl

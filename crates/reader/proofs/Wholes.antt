@@ -1,0 +1,245 @@
+-- The whole text: from no item to all of them, and from the words with ends to the rows that the crates above see.
+-- Assumes nothing.
+use mathlib.Core.Path.{_≡_, refl, sym, ap, _∙_}
+use mathlib.Core.Bool.{false}
+use mathlib.Core.List.{List, [], _∷_}
+use mathlib.Core.Option.{Option, none, some}
+use Prim.Native.Nat.{ℕ, zero, suc, _+_, _*_, _<_, _≤_}
+use native.Mathlib.Nat.{not-suc-le-zero, le-of-suc-le-suc}
+use native.Mathlib.Omega.{arith}
+use lib.Dec.{ltb}
+use lib.ListN.{length, take, replicate, length-append, length-replicate}
+use borrow.Author.Tests.{ltb-true, ltb-false, lt-ltb, le-ltb}
+use Rattle.paper.specs.Base.{gather}
+use Rattle.paper.specs.Tokens.{Token, tokens, bad-from}
+use Rattle.paper.specs.Comments.{outside}
+use Rattle.paper.specs.Statements.{Statement, Item, opens, closes, states, ended, ends}
+use Rattle.paper.specs.Reader.{start, refused, finish, with-ends, items, words, reading}
+use Rattle.paper.specs.declared.Reading.{Reading}
+use Rattle.paper.specs.declared.Reading.the-variants.{Read, Unread}
+use Rattle.paper.specs.declared.Refusal.{Refusal}
+use Rattle.paper.specs.declared.Refusal.the-variants.{LongText, ShortWork, BadByte, OpenText}
+use Rattle.paper.proofs.Tests.{split}
+use Rattle.area.specs.Cells.{statement-cell, math-cell, word, Cleared}
+use Rattle.reader.specs.Rows.{stmt, before, Shape, Rows}
+use Rattle.reader.specs.Passed.{Passed}
+use Rattle.reader.specs.Kept.{stated, Row, Words}
+use Rattle.reader.specs.Held.{Held}
+use Rattle.reader.specs.Ends.{EndsRoom, Ended}
+use Rattle.reader.specs.Whole.{Finished, Answers, TextRead, Reads}
+use Rattle.token.specs.Count.{bad-of, count-of}
+use Rattle.token.specs.declared.count.Counted.{Counted}
+use Rattle.token.specs.declared.count.Bad.the-variants.{At, Nowhere}
+use Rattle.reader.specs.declared.state.State.{State}
+use Rattle.reader.proofs.Grammar.{reached-start, reached-few, few-tokens, reach-end}
+use Rattle.reader.proofs.Keeping.{before-within, row-same, words-start}
+
+-- ---- all items
+pub held-start : {t w : List ℕ} {n : ℕ} → Words t w n [] 0 0 0 → Held t w n (record { at = 0; rows = 0; maths = 0; items = 0; depth = 0 })
+held-start {t} h = record { found = []; words = h; reached = reached-start t; deep = omega arith }
+
+module _ {t w : List ℕ} {n : ℕ} {s : State} (h : Held t w n s) (p : Passed t (s .at) (length t) outside [] outside) where
+  pub all-open : (s .depth ≡ 0 → ⊥) → items (tokens t) (length t) ≡ refused (OpenText (length t))
+  all-open z = reach-end (h .reached) p (length t) ∙ deeper (s .depth) z
+    where
+      deeper : (d : ℕ) → (d ≡ 0 → ⊥) → finish start d (h .found) (length t) ≡ refused (OpenText (length t))
+      deeper zero z = absurd (z refl)
+      deeper (suc d) z = refl
+
+  pub all-done : s .depth ≡ 0 → Finished t w n s
+  all-done z =
+      let f = reached-few (h .reached) in
+      let x = h .words in
+      record {
+        found = h .found;
+        words = x;
+        outcome = reach-end (h .reached) p (length t) ∙ rw z;
+        few = omega (arith, x .size, x .little, x .fewer);
+        maths = omega (arith, x .size);
+        items-few = omega (arith, x .size);
+      }
+
+-- ---- the statements with their ends are those without, but for their ends
+ends-count : (i : List Item) (l : List ℕ) → length (ends i l) ≡ length (stated i)
+unfolding ends stated gather
+ends-count [] l = refl
+ends-count (opens p ∷ i) l = ends-count i l
+ends-count (closes q ∷ i) l = ends-count i l
+ends-count (states x ∷ i) l = ap suc (ends-count i l)
+
+ends-stmt : (i : List Item) (l : List ℕ) (s : ℕ) → s < length (stated i) → stmt (ends i l) s ≡ ended (stmt (ends i l) s .end) (stmt (stated i) s)
+unfolding ends stated gather stmt
+ends-stmt [] l s h = absurd (not-suc-le-zero h)
+ends-stmt (opens p ∷ i) l s h = ends-stmt i l s h
+ends-stmt (closes q ∷ i) l s h = ends-stmt i l s h
+ends-stmt (states x ∷ i) l zero h = refl
+ends-stmt (states x ∷ i) l (suc s) h = ends-stmt i l s (le-of-suc-le-suc h)
+
+ends-before : (i : List Item) (l : List ℕ) (s : ℕ) → before (ends i l) s ≡ before (stated i) s
+unfolding ends stated gather before
+ends-before [] l s = refl
+ends-before (opens p ∷ i) l s = ends-before i l s
+ends-before (closes q ∷ i) l s = ends-before i l s
+ends-before (states x ∷ i) l zero = refl
+ends-before (states x ∷ i) l (suc s) =
+    let f : Statement → List Token = λ y. y .math in
+    omega (arith, ends-before i l s, length-append (x .math) (gather f (take s (ends i l))), length-append (x .math) (gather f (take s (stated i))))
+
+row-ended : {t w : List ℕ} {n s m : ℕ} {x : Statement} (q : ℕ) → Row t w n s x m → Row t w n s (ended q x) m
+row-ended q h =
+    record {
+      kind = h .kind;
+      at = h .at;
+      label = h .label;
+      from-to = h .from-to;
+      within = h .within;
+      first = h .first;
+      count = h .count;
+      part = h .part;
+      rest = h .rest;
+      bears = h .bears;
+      math = h .math;
+      stands = h .stands;
+    }
+
+-- ---- w the words with all items, u with the ends, v with what served to find them cleared
+module _ {t w : List ℕ} {n : ℕ} {s : State} (f : Finished t w n s) where
+  pub small-rows : n ≤ 16777217
+  small-rows = omega (arith, f .words .size, f .words .short, few-tokens t)
+
+  pub ends-room : EndsRoom w n (s .rows) (s .items)
+  ends-room =
+      record {
+        found = f .found;
+        held = record { all-items = f .words .all-items; stated-rows = f .words .stated-rows; events = f .words .events };
+        room = f .words .room;
+        small = small-rows;
+        few = f .items-few;
+        less = f .few;
+      }
+
+  module _ {u v : List ℕ} (e : Ended w u n (s .rows) (s .items)) (c : Cleared (7 * n) (15 * n) u v) where
+    abbrev all : List Statement
+    all = ends (f .found) []
+
+    count : length all ≡ s .rows
+    count = ends-count (f .found) [] ∙ f .words .stated-rows
+
+    -- a word below the cleared ones, and one above
+    low : (i : ℕ) → i < 7 * n → word v i ≡ word u i
+    low i l = c .only .below i l
+
+    high : (i : ℕ) → 15 * n ≤ i → word v i ≡ word w i
+    high i l = c .only .above i l ∙ e .aside .above i l
+
+    row : (r : ℕ) → r < length all → Row t v n r (stmt all r) (before all r)
+    row r l =
+        let a : r < s .rows = omega (arith, l, count) in
+        let m : before (stated (f .found)) r + length (stmt (stated (f .found)) r .math) ≤ s .maths =
+        rw (f .words .stated-rows, f .words .all-maths) at (before-within (stated (f .found)) r (omega (arith, f .words .stated-rows))) in
+        let k : Row t v n r (stmt (stated (f .found)) r) (before (stated (f .found)) r) =
+        row-same (f .words .kept r a)
+        (λ o b q. low (statement-cell r o) (omega (arith, f .few)) ∙ e .aside .kept r o a b q)
+        (λ j b. high (math-cell n (before (stated (f .found)) r + j)) (omega arith)) in
+        rw (ends-before (f .found) [] r, ends-stmt (f .found) [] r (omega (arith, f .words .stated-rows))) (row-ended (stmt all r .end) k)
+
+    end-of : (r : ℕ) → r < length all → word v (statement-cell r 7) ≡ stmt all r .end
+    unfolding ends-room
+    end-of r l =
+        let a : r < s .rows = omega (arith, l, count) in
+        low (statement-cell r 7) (omega (arith, f .few)) ∙ e .sim (f .found) (ends-room .held) r a
+
+    all-maths : before all (length all) ≡ s .maths
+    all-maths = rw count (ends-before (f .found) [] (s .rows) ∙ f .words .all-maths)
+
+    between : (i : ℕ) → 12 * length all ≤ i → i < 15 * n → word v i ≡ 0
+    between i a b =
+        split (ltb i (7 * n))
+        (λ q.
+        let l : i < 7 * n = ltb-true i (7 * n) q in
+        low i l ∙ e .aside .rest i (omega (arith, count)) (omega arith) ∙ f .words .blank i (omega (arith, count)) l)
+        (λ q. c .zeros i (ltb-false i (7 * n) q) b)
+
+    shape : Shape t v n all
+    shape =
+        record {
+          rows = f .words .size;
+          room = omega (arith, f .words .room, e .aside .len, c .only .len);
+          short = f .words .short;
+          few = omega (arith, f .few, count);
+          maths = omega (arith, f .maths, all-maths);
+          kind = λ r l. row r l .kind;
+          at = λ r l. row r l .at;
+          from-to = λ r l. row r l .from-to;
+          within = λ r l. row r l .within;
+          first = λ r l. row r l .first;
+          count = λ r l. row r l .count;
+          end = end-of;
+          part = λ r l. row r l .part;
+        }
+
+    rows-read : Rows t v n all
+    rows-read =
+        record {
+          shape = shape;
+          label = λ r l. row r l .label;
+          bears = λ r l. row r l .bears;
+          math = λ r j l. row r l .math j;
+          stands = λ r j l. row r l .stands j;
+          statement-rest = λ r o l. row r l .rest o;
+          between = between;
+          above = λ i l. high i (omega arith) ∙ f .words .above i (omega (arith, all-maths));
+        }
+
+    pub text-read : (m : ℕ) → length v ≡ m → Answers t v m (with-ends (items (tokens t) (length t))) (Read (s .rows) (s .maths))
+    text-read m l = rw (f .outcome) (rw (all-maths, count), rw (← (f .words .size)) rows-read, l)
+
+pub text-refused : (t : List ℕ) {v : List ℕ} (m : ℕ) → v ≡ replicate m 0 → (x : Refusal) → items (tokens t) (length t) ≡ refused x
+    → Answers t v m (with-ends (items (tokens t) (length t))) (Unread x)
+text-refused t {v} m z x e = rw e (refl, z)
+
+-- ---- numbers 1, 2 and 3
+bad-some : (o : Option ℕ) (p : ℕ) → bad-of o ≡ At p → o ≡ some p
+bad-some none p e = let z : _≡_ {A = ℕ} 0 1 = cc in absurd (omega arith)
+bad-some (some q) p e = let z : q ≡ p = cc in rw z
+
+bad-none : (o : Option ℕ) → bad-of o ≡ Nowhere → o ≡ none
+bad-none none e = refl
+bad-none (some q) e = let z : _≡_ {A = ℕ} 0 1 = cc in absurd (omega arith)
+
+pub counted-tokens : (t : List ℕ) {x : Counted} → x ≡ count-of t → x .tokens ≡ length (tokens t)
+counted-tokens t e = ap (λ (y : Counted). y .tokens) e
+
+module _ (t w : List ℕ) {v : List ℕ} (z : v ≡ replicate (length w) 0) where
+  pub read-long : 16777216 < length t → Reads t w v (Unread LongText)
+  unfolding reading
+  read-long h = rw (lt-ltb 16777216 (length t) h) (refl, z)
+
+  module _ (h : length t ≤ 16777216) {x : Counted} (e : x ≡ count-of t) where
+    pub read-short : length w < 16 * (x .tokens + 1) → Reads t w v (Unread (ShortWork (16 * (x .tokens + 1))))
+    unfolding reading words
+    read-short l =
+        let q = counted-tokens t e in
+        rw (q, le-ltb 16777216 (length t) h, lt-ltb (length w) (16 * (length (tokens t) + 1)) (omega (arith, l, q))) (refl, z)
+
+    module _ (l : 16 * (x .tokens + 1) ≤ length w) where
+      fits : ltb (length w) (16 * (length (tokens t) + 1)) ≡ false
+      fits = let q = counted-tokens t e in le-ltb (length w) (16 * (length (tokens t) + 1)) (omega (arith, l, q))
+
+      pub read-bad : (p : ℕ) → x .bad ≡ At p → Reads t w v (Unread (BadByte p))
+      unfolding reading words
+      read-bad p q =
+          let b : bad-from t 0 ≡ some p = bad-some (bad-from t 0) p (sym (ap (λ (y : Counted). y .bad) e) ∙ q) in
+          rw (le-ltb 16777216 (length t) h, fits, b) (refl, z)
+
+      pub read-begin : Words t v (x .tokens + 1) [] 0 0 0
+      read-begin =
+          let q = counted-tokens t e in
+          words-start t v (x .tokens + 1) (length w) (rw q refl) (omega (arith, l, ap length z, length-replicate {A = ℕ} (length w) 0)) h z
+
+      pub read-good : (u : List ℕ) (r : Reading) → x .bad ≡ Nowhere → TextRead t v u (x .tokens + 1) r → Reads t w u r
+      unfolding reading words
+      read-good u r q d =
+          let b : bad-from t 0 ≡ none = bad-none (bad-from t 0) (sym (ap (λ (y : Counted). y .bad) e) ∙ q) in
+          let k : length v ≡ length w = ap length z ∙ length-replicate {A = ℕ} (length w) 0 in
+          rw (le-ltb 16777216 (length t) h, fits, b) (rw k at d)

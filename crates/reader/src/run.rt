@@ -1,0 +1,135 @@
+// Runs of math tokens: those of a math string, kept in the math column, and those of a proof, passed over; and what closes them.
+// A run takes the comments in it along.
+use crate::comment::Visible;
+use crate::comment::next_visible;
+use area::math;
+use paper::Refusal;
+use token::cursor::Span;
+use token::cursor::is_key;
+ghost use mathlib.Core.Path.{_≡_};
+ghost use mathlib.Core.List.{[], _∷_};
+ghost use lib.ListN.{getD};
+ghost use Rattle.token.specs.Class.{classes};
+ghost use Rattle.reader.specs.Passed.{Seen};
+ghost use Rattle.reader.specs.Runs.{RunRoom, Ran, Proved, closing-of};
+
+/// A run of math tokens: how many, the place after the last, and what stands next.
+pub struct Run {
+    pub count: usize,
+    pub stop: usize,
+    pub after: Visible,
+}
+
+/// How a run closes: at a keyword, or refused.
+pub enum Closing {
+    At(Span),
+    Refused(Refusal),
+}
+
+/// The longest run of at most `most` math tokens from `at` on; their offsets stand in the math column from `first` on.
+pub fn read_run(
+    table: &[u8; 256],
+    text: &[u8],
+    work: &mut [u32],
+    n: usize,
+    at: usize,
+    most: usize,
+    first: usize,
+) -> Run
+    requires { ⌜ (now table ≡ classes) × RunRoom (now text) (now work) n at first ⌝ }
+    ensures { λ r. ⌜ Ran (now (text .entry)) (now (work .entry)) (now (work .exit)) n at most first r ⌝ }
+{
+    let mut stop = at;
+    let mut count: usize = 0;
+    loop {
+        match next_visible(table, text, stop) {
+            Visible::End => return Run {
+                count: count,
+                stop: stop,
+                after: Visible::End,
+            },
+            Visible::Open(p) => return Run {
+                count: count,
+                stop: stop,
+                after: Visible::Open(p),
+            },
+            Visible::Token(x) => {
+                if x.least < 3 {
+                    return Run {
+                        count: count,
+                        stop: stop,
+                        after: Visible::Token(x),
+                    };
+                }
+                if most <= count {
+                    return Run {
+                        count: count,
+                        stop: stop,
+                        after: Visible::Token(x),
+                    };
+                }
+                let cell = math(n, first + count);
+                work[cell] = x.start as u32;
+                count += 1;
+                stop = x.stop;
+            }
+        }
+    }
+}
+
+/// The longest run of math tokens from `at` on, counted only as none (0) or some (1).
+pub fn read_proof(table: &[u8; 256], text: &[u8], at: usize) -> Run
+    requires { ⌜ now table ≡ classes ⌝ }
+    ensures { λ r. ⌜ Proved (now (text .entry)) at r ⌝ }
+{
+    let mut stop = at;
+    let mut some: usize = 0;
+    loop {
+        match next_visible(table, text, stop) {
+            Visible::End => return Run {
+                count: some,
+                stop: stop,
+                after: Visible::End,
+            },
+            Visible::Open(p) => return Run {
+                count: some,
+                stop: stop,
+                after: Visible::Open(p),
+            },
+            Visible::Token(x) => {
+                if x.least < 3 {
+                    return Run {
+                        count: some,
+                        stop: stop,
+                        after: Visible::Token(x),
+                    };
+                }
+                some = 1;
+                stop = x.stop;
+            }
+        }
+    }
+}
+
+/// The keyword that closes a run of at least `least` tokens.
+pub fn close_run(text: &[u8], run: Run, least: usize, key: [u8; 2]) -> Closing
+    requires { ⌜ Seen (now text) (run .stop) (run .after) ⌝ }
+    ensures { λ r. ⌜ r ≡ closing-of (now (text .entry)) (run .after) (run .count) least (getD key 0 0 ∷ getD key 1 0 ∷ []) ⌝ }
+{
+    let after = run.after;
+    match after {
+        Visible::End => Closing::Refused(Refusal::OpenText(text.len() as u64)),
+        Visible::Open(p) => Closing::Refused(Refusal::OpenComment(p as u64)),
+        Visible::Token(x) => {
+            let start = x.start;
+            let stop = x.stop;
+            if run.count < least {
+                return Closing::Refused(Refusal::BadToken(start as u64));
+            }
+            if !is_key(&text[start..stop], key) {
+                return Closing::Refused(Refusal::BadToken(start as u64));
+            }
+            Closing::At(x)
+        }
+    }
+}
