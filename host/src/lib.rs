@@ -3,7 +3,7 @@
 //! The library promises, for every text and every length of the lent buffers: the answer is document 01's; a refusal
 //! leaves both output buffers unchanged; the work area holds only zeros afterwards.
 
-/// What the operation answers: document 01's number and place, and the used lengths of the two streams.
+/// What the check answers: document 01's number and place, and the used lengths of the two streams.
 #[derive(Clone, Copy, Debug, PartialEq, Eq)]
 pub struct Answer {
     pub number: u32,
@@ -17,6 +17,13 @@ pub struct Answer {
 pub struct Found {
     pub number: u32,
     pub place: u64,
+}
+
+/// The two streams of a text that is not refused.
+#[derive(Clone, Debug, PartialEq, Eq)]
+pub struct Streams {
+    pub frames: Vec<u8>,
+    pub diags: Vec<u8>,
 }
 
 extern "C" {
@@ -43,7 +50,8 @@ extern "C" {
 /// Checks a text: frames and diagnostics go to the fronts of their buffers if the number is 0.
 pub fn check(text: &[u8], work: &mut [u32], frames: &mut [u8], diags: &mut [u8]) -> Answer {
     let mut answer = [0u64; 3];
-    // The library reads `text`, writes the other slices within their lengths, and keeps no pointer.
+    // SAFETY: the library reads `text`, writes the other slices within their lengths, and keeps no pointer; the
+    // slices do not overlap, since three of them are borrowed for writing; `answer` has the three words it writes.
     let number = unsafe {
         janorembe_check(
             text.as_ptr(),
@@ -63,15 +71,24 @@ pub fn check(text: &[u8], work: &mut [u32], frames: &mut [u8], diags: &mut [u8])
 /// The first record of a frame stream with this label.
 pub fn lookup(frames: &[u8], label: &[u8]) -> Found {
     let mut place = 0u64;
-    // The library only reads the two slices.
-    let number =
-        unsafe { janorembe_lookup(frames.as_ptr(), frames.len(), label.as_ptr(), label.len(), &mut place) };
+    // SAFETY: the library reads the two slices within their lengths, writes `place`, and keeps no pointer.
+    let number = unsafe { janorembe_lookup(frames.as_ptr(), frames.len(), label.as_ptr(), label.len(), &mut place) };
     Found { number, place }
 }
 
-/// The words of work area that a text needs: 16 for each token, and 16 more.
-pub fn words_needed(text: &[u8]) -> usize {
-    let white = |b: u8| matches!(b, 9 | 10 | 12 | 13 | 32);
-    let starts = (0..text.len()).filter(|&i| !white(text[i]) && (i == 0 || white(text[i - 1])));
-    16 * (starts.count() + 1)
+/// Checks a text over buffers of its own, as long as the places of numbers 2, 8 and 9 say; a refusal for any other reason
+/// is given back.
+pub fn streams(text: &[u8]) -> Result<Streams, Answer> {
+    let (mut work, mut frames, mut diags) = (Vec::new(), Vec::new(), Vec::new());
+    loop {
+        let answer = check(text, &mut work, &mut frames, &mut diags);
+        let needed = answer.place as usize;
+        match answer.number {
+            0 => return Ok(Streams { frames, diags }),
+            2 => work = vec![0; needed],
+            8 => frames = vec![0; needed],
+            9 => diags = vec![0; needed],
+            _ => return Err(answer),
+        }
+    }
 }

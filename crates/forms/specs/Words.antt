@@ -10,7 +10,7 @@ use lib.ListN.{length, getD, take, drop}
 use Rattle.paper.specs.Base.{choose, gather, table}
 use Rattle.paper.specs.Statements.{none-end}
 use Rattle.paper.specs.State.{Symbol, con, var}
-use Rattle.paper.specs.Frames.{constant-in, Fragment, rump}
+use Rattle.paper.specs.Frames.{constant-in, Fragment}
 use Rattle.area.specs.Cells.{statement-cell, name-cell, bucket-cell, symbol-cell, math-cell, word}
 use Rattle.sight.specs.Sums.{sum}
 
@@ -73,23 +73,24 @@ stack-constants t w n (suc k) = stack-constants t w n k ++ constants-of t w n (e
 unfoldable pub stack-size : List ℕ → ℕ → ℕ → ℕ
 stack-size w n k = sum (λ j. sizes-to w n (essential-row w j) (count-of w (essential-row w j))) k
 
--- ---- fragments: where the one in hand starts, the place reached, and those that end up to the i-th math token
-unfoldable pub begun-at : List ℕ → List ℕ → ℕ → ℕ → ℕ → ℕ → ℕ
-begun-at t w n row a i = rump (body-of t w n row i) a a
-
-unfoldable pub reached-at : List ℕ → List ℕ → ℕ → ℕ → ℕ → ℕ → ℕ
-reached-at t w n row a i = a + length (constants-to t w n row i)
+-- ---- fragments, the constants of the row standing in the pool from a on: where the one in hand starts after j symbols,
+-- the one that the symbol after them ends, and those that j symbols end
+unfoldable pub starts : List ℕ → ℕ → ℕ → ℕ → ℕ → ℕ
+starts w n row a zero = a
+starts w n row a (suc j) =
+    choose (eqb (word w (symbol-cell n (atom-at w n row (j + 1)) 5)) none-end) (starts w n row a j)
+    (a + sizes-to w n row (j + 1))
 
 abbrev pub piece-by : ℕ → ℕ → ℕ → List Fragment
 piece-by k a b = choose (eqb k none-end) [] (record { from = a; to = b; variable = k - 1 } ∷ [])
 
-unfoldable pub piece : List ℕ → List ℕ → ℕ → ℕ → ℕ → ℕ → List Fragment
-piece t w n row a i =
-    piece-by (word w (symbol-cell n (atom-at w n row i) 5)) (begun-at t w n row a i) (reached-at t w n row a i)
+abbrev pub piece : List ℕ → ℕ → ℕ → ℕ → ℕ → List Fragment
+piece w n row a j =
+    piece-by (word w (symbol-cell n (atom-at w n row (j + 1)) 5)) (starts w n row a j) (a + sizes-to w n row (j + 1))
 
-unfoldable pub pieces : List ℕ → List ℕ → ℕ → ℕ → ℕ → ℕ → List Fragment
-pieces t w n row a zero = []
-pieces t w n row a (suc i) = pieces t w n row a i ++ piece t w n row a (i + 1)
+unfoldable pub pieces : List ℕ → ℕ → ℕ → ℕ → ℕ → List Fragment
+pieces w n row a zero = []
+pieces w n row a (suc j) = pieces w n row a j ++ piece w n row a j
 
 -- ---- what makes it safe to read them
 pub record NameWords (t w : List ℕ) (n a : ℕ) : Type 0 where

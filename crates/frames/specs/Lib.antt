@@ -1,1 +1,2 @@
 pub mod Stub
+pub mod Front

@@ -1,3 +1,4 @@
 // Both frame constructors (carries construct_stub_frame and construct_full_frame of scopeck.rs).
 // The same code measures, lent an empty buffer, and writes.
+pub mod front;
 pub mod stub;

@@ -1,19 +1,19 @@
 -- Atoms and names are each other's inverse, on names that occur; two names that occur have one atom exactly where they are equal.
 -- Assumes nothing.
-use mathlib.Core.Path.{_≡_, refl, sym, ap, _∙_}
-use mathlib.Core.Bool.{Bool, true, false}
-use mathlib.Core.List.{List, [], _∷_, _++_, map}
+use mathlib.Core.Path.{_≡_, ap, _∙_}
+use mathlib.Core.Bool.{true}
+use mathlib.Core.List.{List, [], _++_, map}
 use Prim.Native.Nat.{ℕ, _+_, _<_, _≤_}
 use native.Mathlib.Omega.{arith}
-use lib.ListN.{length, getD, take, length-append, length-map, List·getD-map}
+use lib.ListN.{length, length-append, length-map, List·getD-map}
 use lib.Seq.{take-length}
-use Rattle.paper.specs.Base.{choose, sameb, any, gather}
+use Rattle.paper.specs.Base.{sameb, any, gather}
 use Rattle.paper.specs.Statements.{labelled, Statement}
 use Rattle.paper.specs.Names.{bearer, labels}
-use Rattle.paper.specs.Frames.{member, sights, index}
+use Rattle.paper.specs.Frames.{member}
 use Rattle.paper.specs.Checks.{token, no-token}
 use Rattle.paper.proofs.Tests.{split, same-refl}
-use Rattle.paper.proofs.Names.{any-append, member-left, member-right, member-at, index-lt, index-at, index-same, sights-length, sights-member, Distinct, distinct-none, distinct-sights}
+use Rattle.paper.proofs.Names.{any-append, member-at, index-lt, index-at, index-same, sights-length, sights-member, Distinct, distinct-none, distinct-sights}
 use Rattle.paper.proofs.Gather.{map-append, gather-both, any-gather}
 use Rattle.reader.specs.Rows.{no-statement, stmt, before}
 use Rattle.nameck.specs.Atoms.{bytes-of, names-in, atoms, atom-of, name-of}

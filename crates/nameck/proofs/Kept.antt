@@ -1,22 +1,18 @@
 -- What was named stays named under every write that keeps the words which say so; and which stores are such writes.
 -- Assumes nothing.
-use mathlib.Core.Path.{_≡_, refl, sym, ap, _∙_}
+use mathlib.Core.Path.{_≡_, refl, ap, _∙_}
 use mathlib.Core.Logic.{_≢_}
-use mathlib.Core.Bool.{Bool, true, false}
-use mathlib.Core.List.{List, [], _∷_, _++_}
+use mathlib.Core.List.{List}
 use Prim.Native.Nat.{ℕ, _+_, _-_, _*_, _<_, _≤_}
 use native.Mathlib.Omega.{arith}
 use lib.ListN.{length, set, length-set}
-use Rattle.paper.specs.Statements.{labelled, Statement}
-use Rattle.paper.specs.Checks.{token}
+use Rattle.paper.specs.Statements.{Statement}
 use Rattle.area.specs.Cells.{statement-cell, name-cell, symbol-cell, math-cell, word}
 use Rattle.area.proofs.Laws.{word-other}
-use Rattle.reader.specs.Rows.{stmt, before, Shape}
+use Rattle.reader.specs.Rows.{stmt, before, Shape, no-statement}
 use Rattle.paper.specs.Base.{gather}
 use Rattle.paper.proofs.Gather.{gather-upto}
-use Rattle.reader.specs.Rows.{no-statement}
 use lib.Seq.{take-length}
-use lib.ListN.{take}
 use Rattle.nameck.specs.Atoms.{atoms}
 use Rattle.nameck.specs.Named.{Named}
 use Rattle.nameck.specs.Kept.{Kept}

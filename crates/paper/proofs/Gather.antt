@@ -1,14 +1,14 @@
 -- What each of a list's elements gives, one after the other: up to an element, at a place in it, and after it.
 -- For every crate; nothing here is about Metamath.
 use mathlib.Core.Path.{_≡_, refl, sym, ap, _∙_}
-use mathlib.Core.Bool.{Bool, true, false}
-use mathlib.Core.List.{List, [], _∷_, _++_, map, append-assoc, append-nil}
-use Prim.Native.Nat.{ℕ, zero, suc, _+_, _<_, _≤_}
+use mathlib.Core.Bool.{Bool, true}
+use mathlib.Core.List.{List, [], _∷_, _++_, map, append-nil}
+use Prim.Native.Nat.{ℕ, suc, _+_, _<_, _≤_}
 use native.Mathlib.Numerals.{add-one}
 use native.Mathlib.Omega.{arith}
 use lib.ListN.{length, getD, take, drop, length-append, List·getD-append, take-append-drop}
 use lib.Seq.{take-suc, drop-cons, getD-append-add}
-use Rattle.paper.specs.Base.{choose, or, any, gather}
+use Rattle.paper.specs.Base.{any, gather}
 use Rattle.paper.proofs.Tests.{split}
 use Rattle.paper.proofs.Lists.{gather-append}
 use Rattle.paper.proofs.Names.{any-append}

@@ -11,7 +11,7 @@ pub mod Slips
 pub mod Edges
 pub mod Lookups
 pub mod Readings
-pub mod All
+pub mod Searches
 pub mod Sums
 pub mod Gather
 pub mod Made

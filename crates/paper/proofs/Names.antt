@@ -4,13 +4,12 @@ use mathlib.Core.Path.{_≡_, refl, sym, ap, _∙_}
 use mathlib.Core.Bool.{Bool, true, false}
 use mathlib.Core.List.{List, [], _∷_, _++_, append-assoc, append-nil}
 use Prim.Native.Nat.{ℕ, zero, suc, _+_, _<_, _≤_}
-use native.Mathlib.Nat.{le-of-suc-le-suc, not-suc-le-zero}
 use native.Mathlib.Omega.{arith}
-use lib.Dec.{eqb, ltb}
+use lib.Dec.{ltb}
 use lib.ListN.{length, getD, length-append, List·getD-append}
 use lib.Seq.{getD-append-add}
-use borrow.Author.Tests.{eq-eqb, eqb-true, ltb-true, ltb-false}
-use Rattle.paper.specs.Base.{choose, or, sameb, any}
+use borrow.Author.Tests.{ltb-true, ltb-false}
+use Rattle.paper.specs.Base.{or, sameb, any}
 use Rattle.paper.specs.Frames.{member, see, sights, index}
 use Rattle.paper.proofs.Tests.{split, clash, same-refl, same-eq, eq-same, ne-same}
 

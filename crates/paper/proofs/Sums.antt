@@ -1,12 +1,12 @@
 -- The sum of a number over a list, and lengths as such sums.
 -- For every crate; nothing here is about Metamath.
-use mathlib.Core.Path.{_≡_, refl, sym, ap, _∙_}
-use mathlib.Core.Bool.{Bool, true, false}
+use mathlib.Core.Path.{_≡_, refl, ap}
+use mathlib.Core.Bool.{Bool}
 use mathlib.Core.List.{List, [], _∷_, _++_, map}
 use Prim.Native.Nat.{ℕ, _+_, _*_, _≤_}
 use native.Mathlib.Omega.{arith}
 use lib.ListN.{length, length-append}
-use Rattle.paper.specs.Base.{choose, keep, gather}
+use Rattle.paper.specs.Base.{keep, gather}
 use Rattle.paper.proofs.Tests.{split}
 
 unfoldable pub total : {A : Type 0} → (A → ℕ) → List A → ℕ
@@ -29,21 +29,18 @@ unfolding total
 total-map f g [] = refl
 total-map f g (x ∷ l) = ap (λ (n : ℕ). f (g x) + n) (total-map f g l)
 
-pub total-gather : {A B : Type 0} (f : B → ℕ) (g : A → List B) (l : List A) → total f (gather g l) ≡ total (λ x. total f (g x)) l
+pub total-gather : {A B : Type 0} (f : B → ℕ) (g : A → List B) (l : List A)
+    → total f (gather g l) ≡ total (λ x. total f (g x)) l
 unfolding total gather
 total-gather f g [] = refl
 total-gather f g (x ∷ l) = omega (arith, total-append f (g x) (gather g l), total-gather f g l)
 
 -- at most k times as much
-pub total-times : {A : Type 0} (k : ℕ) (f g : A → ℕ) → ((x : A) → f x ≤ k * g x) → (l : List A) → total f l ≤ k * total g l
+pub total-times : {A : Type 0} (k : ℕ) (f g : A → ℕ) → ((x : A) → f x ≤ k * g x) → (l : List A)
+    → total f l ≤ k * total g l
 unfolding total
 total-times k f g h [] = omega arith
 total-times k f g h (x ∷ l) = omega (arith, h x, total-times k f g h l)
-
-pub total-le : {A : Type 0} (f g : A → ℕ) → ((x : A) → f x ≤ g x) → (l : List A) → total f l ≤ total g l
-unfolding total
-total-le f g h [] = omega arith
-total-le f g h (x ∷ l) = omega (arith, h x, total-le f g h l)
 
 pub length-gather : {A B : Type 0} (f : A → List B) (l : List A) → length (gather f l) ≡ total (λ x. length (f x)) l
 unfolding total gather

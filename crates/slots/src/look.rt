@@ -14,11 +14,11 @@ ghost use Rattle.slots.specs.Kept.{Room};
 ghost use Rattle.slots.specs.Slots.{owner-slot, global-slot, nested-slot, float-slot, sense-nested, sense-word, checked-of, with-nested, with-float};
 
 /// The first bearer of a name as a label.
-pub fn label_owner(work: &[u32], n: usize, a: usize) -> Slot
-    requires { ⌜ Room (now work) n × (a < n) ⌝ }
-    ensures { λ r. ⌜ r ≡ owner-slot (now (work .entry)) n a ⌝ }
+pub fn label_owner(work: &[u32], n: usize, atom: Atom) -> Slot
+    requires { ⌜ Room (now work) n × (atom .0 < n) ⌝ }
+    ensures { λ r. ⌜ r ≡ owner-slot (now (work .entry)) n (atom .0) ⌝ }
 {
-    let o = of_symbol(work, n, a, area::OWNER);
+    let o = of_symbol(work, n, atom.0 as usize, area::OWNER);
     if o == 0 {
         return Slot::Nothing;
     }
@@ -26,11 +26,11 @@ pub fn label_owner(work: &[u32], n: usize, a: usize) -> Slot
 }
 
 /// The global declaration of a name.
-pub fn global_of(work: &[u32], n: usize, a: usize) -> Global
-    requires { ⌜ Room (now work) n × (a < n) ⌝ }
-    ensures { λ r. ⌜ r ≡ global-slot (now (work .entry)) n a ⌝ }
+pub fn global_of(work: &[u32], n: usize, atom: Atom) -> Global
+    requires { ⌜ Room (now work) n × (atom .0 < n) ⌝ }
+    ensures { λ r. ⌜ r ≡ global-slot (now (work .entry)) n (atom .0) ⌝ }
 {
-    let g = of_symbol(work, n, a, area::GLOBAL);
+    let g = of_symbol(work, n, atom.0 as usize, area::GLOBAL);
     if g == 0 {
         return Global::Nothing;
     }
@@ -42,23 +42,23 @@ pub fn global_of(work: &[u32], n: usize, a: usize) -> Global
 }
 
 /// The nested `$v` token of a name that is active at an offset.
-pub fn nested_of(work: &[u32], n: usize, a: usize, here: u32) -> Slot
-    requires { ⌜ Room (now work) n × (a < n) ⌝ }
-    ensures { λ r. ⌜ r ≡ nested-slot (now (work .entry)) n a here ⌝ }
+pub fn nested_of(work: &[u32], n: usize, atom: Atom, here: u32) -> Slot
+    requires { ⌜ Room (now work) n × (atom .0 < n) ⌝ }
+    ensures { λ r. ⌜ r ≡ nested-slot (now (work .entry)) n (atom .0) here ⌝ }
 {
-    let e = of_symbol(work, n, a, area::NESTED_END);
+    let e = of_symbol(work, n, atom.0 as usize, area::NESTED_END);
     if here < e {
-        return Slot::At(of_symbol(work, n, a, area::NESTED));
+        return Slot::At(of_symbol(work, n, atom.0 as usize, area::NESTED));
     }
     Slot::Nothing
 }
 
 /// The row of the `$f` of a variable that is active at an offset.
-pub fn lookup_float(work: &[u32], n: usize, a: usize, here: u32) -> Slot
-    requires { ⌜ Room (now work) n × (a < n) × (3 * word (now work) (symbol-cell n a 4) ≤ n) ⌝ }
-    ensures { λ r. ⌜ r ≡ float-slot (now (work .entry)) n a here ⌝ }
+pub fn lookup_float(work: &[u32], n: usize, atom: Atom, here: u32) -> Slot
+    requires { ⌜ Room (now work) n × (atom .0 < n) × (3 * word (now work) (symbol-cell n (atom .0) 4) ≤ n) ⌝ }
+    ensures { λ r. ⌜ r ≡ float-slot (now (work .entry)) n (atom .0) here ⌝ }
 {
-    let f = of_symbol(work, n, a, area::FLOAT);
+    let f = of_symbol(work, n, atom.0 as usize, area::FLOAT);
     if f == 0 {
         return Slot::Nothing;
     }
@@ -74,7 +74,7 @@ pub fn by_nested(work: &[u32], n: usize, atom: Atom, here: u32) -> CheckedToken
     requires { ⌜ Room (now work) n × (atom .0 < n) ⌝ }
     ensures { λ r. ⌜ r ≡ checked-of (sense-nested (nested-slot (now (work .entry)) n (atom .0) here)) (atom .0) ⌝ }
 {
-    let Slot::At(_) = nested_of(work, n, atom.0 as usize, here) else {
+    let Slot::At(_) = nested_of(work, n, atom, here) else {
         return CheckedToken::Inactive;
     };
     CheckedToken::Variable(atom)
@@ -85,7 +85,7 @@ pub fn check_math_symbol(work: &[u32], n: usize, atom: Atom, here: u32) -> Check
     requires { ⌜ Room (now work) n × (atom .0 < n) ⌝ }
     ensures { λ r. ⌜ r ≡ checked-of (sense-word (now (work .entry)) n (atom .0) here) (atom .0) ⌝ }
 {
-    match global_of(work, n, atom.0 as usize) {
+    match global_of(work, n, atom) {
         Global::Constant(g) => {
             if g < here {
                 return CheckedToken::Constant(atom);
@@ -103,18 +103,18 @@ pub fn check_math_symbol(work: &[u32], n: usize, atom: Atom, here: u32) -> Check
 }
 
 /// Records a nested `$v` token with its end.
-pub fn record_nested(work: &mut [u32], n: usize, a: usize, offset: u32, end: u32)
-    requires { ⌜ Room (now work) n × (a < n) ⌝ }
-    ensures { λ r. ⌜ now (work .exit) ≡ with-nested (now (work .entry)) n a offset end ⌝ }
+pub fn record_nested(work: &mut [u32], n: usize, atom: Atom, offset: u32, end: u32)
+    requires { ⌜ Room (now work) n × (atom .0 < n) ⌝ }
+    ensures { λ r. ⌜ now (work .exit) ≡ with-nested (now (work .entry)) n (atom .0) offset end ⌝ }
 {
-    put_symbol(work, n, a, area::NESTED, offset);
-    put_symbol(work, n, a, area::NESTED_END, end);
+    put_symbol(work, n, atom.0 as usize, area::NESTED, offset);
+    put_symbol(work, n, atom.0 as usize, area::NESTED_END, end);
 }
 
 /// Records an accepted `$f` by its row.
-pub fn record_float(work: &mut [u32], n: usize, a: usize, row: usize)
-    requires { ⌜ Room (now work) n × (a < n) × (row < n) ⌝ }
-    ensures { λ r. ⌜ now (work .exit) ≡ with-float (now (work .entry)) n a row ⌝ }
+pub fn record_float(work: &mut [u32], n: usize, atom: Atom, row: usize)
+    requires { ⌜ Room (now work) n × (atom .0 < n) × (row < n) ⌝ }
+    ensures { λ r. ⌜ now (work .exit) ≡ with-float (now (work .entry)) n (atom .0) row ⌝ }
 {
-    put_symbol(work, n, a, area::FLOAT, (row + 1) as u32);
+    put_symbol(work, n, atom.0 as usize, area::FLOAT, (row + 1) as u32);
 }

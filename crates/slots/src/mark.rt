@@ -4,6 +4,7 @@ use crate::Slot;
 use crate::cells::of_math;
 use crate::cells::of_symbol;
 use crate::cells::put_symbol;
+use paper::Atom;
 use paper::TokenIndex;
 ghost use mathlib.Core.Path.{_≡_};
 ghost use Prim.Native.Nat.{_+_, _<_, _≤_};
@@ -11,13 +12,13 @@ ghost use Rattle.slots.specs.Kept.{Room};
 ghost use Rattle.slots.specs.Marks.{mark-slot, marked-by, Atoms, Forgot};
 
 /// The index of the first token of a name; the name is marked if this is its first.
-pub fn see(work: &mut [u32], n: usize, a: usize, i: TokenIndex) -> Slot
-    requires { ⌜ Room (now work) n × (a < n) × (i .0 < 16777217) ⌝ }
-    ensures { λ r. ⌜ (r ≡ mark-slot (now (work .entry)) n a) × (now (work .exit) ≡ marked-by (mark-slot (now (work .entry)) n a) (now (work .entry)) n a (i .0)) ⌝ }
+pub fn see(work: &mut [u32], n: usize, atom: Atom, i: TokenIndex) -> Slot
+    requires { ⌜ Room (now work) n × (atom .0 < n) × (i .0 < 16777217) ⌝ }
+    ensures { λ r. ⌜ (r ≡ mark-slot (now (work .entry)) n (atom .0)) × (now (work .exit) ≡ marked-by (mark-slot (now (work .entry)) n (atom .0)) (now (work .entry)) n (atom .0) (i .0)) ⌝ }
 {
-    let k = of_symbol(work, n, a, area::MARK);
+    let k = of_symbol(work, n, atom.0 as usize, area::MARK);
     if k == 0 {
-        put_symbol(work, n, a, area::MARK, i.0 + 1);
+        put_symbol(work, n, atom.0 as usize, area::MARK, i.0 + 1);
         return Slot::Nothing;
     }
     Slot::At(k - 1)

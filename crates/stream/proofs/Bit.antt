@@ -1,16 +1,14 @@
 -- Bits of bytes: what the code's shifts give, where a bit stands in bytes that follow others, and rows of bits.
 -- For the functions that read and set a bit, and for their callers.
-use mathlib.Core.Path.{_≡_, refl, sym, ap, _∙_}
-use mathlib.Core.Bool.{Bool, true, false}
-use mathlib.Core.List.{List, [], _∷_, _++_}
-use Prim.Native.Nat.{ℕ, zero, suc, _+_, _-_, _*_, _/_, _%_, _^_, _<_, _≤_}
-use native.Mathlib.Nat.{zero-div, one-mul}
+use mathlib.Core.Path.{_≡_, refl}
+use mathlib.Core.Bool.{true, false}
+use mathlib.Core.List.{List}
+use Prim.Native.Nat.{ℕ, zero, suc, _+_, _*_, _/_, _%_, _^_, _<_, _≤_}
+use native.Mathlib.Nat.{zero-div}
 use native.Mathlib.Omega.{arith}
-use lib.Dec.{eqb}
 use lib.ListN.{length, getD, set, List·getD-eq-default}
 use lib.Seq.{set-out, set-getD}
 use borrow.Author.Tests.{eqb-false}
-use Rattle.paper.specs.Base.{choose}
 use Rattle.stream.specs.Bits.{lit, light, bit-at, with-bit}
 
 -- what holds of 0 to 7

@@ -1,15 +1,14 @@
 -- Two parts of one length compared byte by byte from an index on.
 -- For the function that compares labels.
-use mathlib.Core.Path.{_≡_, refl, sym, ap, _∙_}
+use mathlib.Core.Path.{_≡_, refl, ap}
 use mathlib.Core.Bool.{Bool, true, false}
-use mathlib.Core.List.{List, [], _∷_}
+use mathlib.Core.List.{List}
 use Prim.Native.Nat.{ℕ, _+_, _<_, _≤_}
 use native.Mathlib.Numerals.{add-one}
-use lib.Dec.{eqb}
 use lib.ListN.{length, getD, drop, drop-of-length-le}
 use lib.Seq.{drop-cons}
 use borrow.Author.Tests.{eq-eqb, ne-eqb}
-use Rattle.paper.specs.Base.{choose, sameb}
+use Rattle.paper.specs.Base.{sameb}
 use Rattle.paper.proofs.Tests.{ne-same}
 
 unfoldable pub same-from : List ℕ → List ℕ → ℕ → Bool

@@ -1,17 +1,12 @@
 -- The framing of a record, test by test as the code makes them; and that it is the definition's.
 -- For the walk over a frame stream.
-use mathlib.Core.Path.{_≡_, refl, sym, ap, _∙_}
-use mathlib.Core.Bool.{Bool, true, false}
-use mathlib.Core.List.{List, [], _∷_}
-use Prim.Native.Nat.{ℕ, zero, suc, _+_, _-_, _*_, _<_, _≤_}
-use native.Mathlib.Omega.{arith}
-use lib.Dec.{eqb, ltb}
-use lib.ListN.{length, getD, take, drop}
+use mathlib.Core.Path.{_≡_, sym, ap, _∙_}
+use mathlib.Core.List.{List}
+use Prim.Native.Nat.{ℕ, _+_, _<_, _≤_}
+use lib.ListN.{length}
 use borrow.Author.Tests.{eq-eqb, ne-eqb, lt-ltb, le-ltb}
-use Rattle.paper.specs.Base.{choose}
 use Rattle.paper.specs.Lookup.{u16-at, u32-at, label-place}
 use Rattle.stream.specs.Framing.{label-from, label-by, label-in, framing}
-use Rattle.stream.specs.declared.walk.Framing.{Framing}
 use Rattle.stream.specs.declared.walk.Framing.the-variants.{Well, Badly}
 
 -- ---- the label

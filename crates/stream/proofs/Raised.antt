@@ -1,14 +1,14 @@
 -- Bytes with the last one raised: the bytes before it, and it; and why it can be raised.
 -- For the writer of such bytes and its callers.
-use mathlib.Core.Path.{_≡_, refl, sym, ap, _∙_}
-use mathlib.Core.Bool.{Bool, true, false}
+use mathlib.Core.Path.{_≡_, refl, sym, ap}
+use mathlib.Core.Bool.{true}
 use mathlib.Core.List.{List, [], _∷_, _++_}
-use Prim.Native.Nat.{ℕ, zero, suc, _+_, _-_, _<_, _≤_}
+use Prim.Native.Nat.{ℕ, zero, suc, _+_, _-_, _<_}
 use native.Mathlib.Omega.{arith}
 use lib.Dec.{leb}
 use lib.ListN.{length, getD, take}
 use borrow.Author.Tests.{leb-true}
-use Rattle.paper.specs.Base.{choose, all, and, within}
+use Rattle.paper.specs.Base.{all, and}
 use Rattle.paper.specs.Bytes.{printable, math-byte}
 use Rattle.paper.specs.Frames.{raised}
 use Rattle.paper.proofs.Tests.{split, clash}

@@ -1,14 +1,14 @@
 -- How many bytes records have, and records put together from their parts.
 -- For the writers of records.
-use mathlib.Core.Path.{_≡_, refl, sym, ap, _∙_}
-use mathlib.Core.List.{List, [], _∷_, _++_, append-nil}
+use mathlib.Core.Path.{_≡_, refl}
+use mathlib.Core.List.{List, _++_, append-nil}
 use Prim.Native.Nat.{ℕ, _+_}
 use native.Mathlib.Omega.{arith}
 use lib.ListN.{length, length-append}
 use Rattle.paper.specs.Base.{gather}
 use Rattle.paper.specs.Checks.{diag}
 use Rattle.paper.specs.Frames.{raised, stub}
-use Rattle.paper.specs.Records.{le, u16, u32, string, framed, diag-record, frame-record}
+use Rattle.paper.specs.Records.{le, u16, u32, string, diag-record, frame-record}
 use Rattle.stream.specs.Wrote.{Wrote}
 use Rattle.stream.specs.Diagnostic.{diagnostic}
 use Rattle.stream.proofs.Raised.{length-raised}

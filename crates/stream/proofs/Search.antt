@@ -4,18 +4,19 @@ use mathlib.Core.Path.{_≡_, refl, sym, ap, _∙_}
 use mathlib.Core.Bool.{Bool, true, false}
 use mathlib.Core.List.{List, [], _∷_}
 use mathlib.Core.Option.{Option, none, some}
-use Prim.Native.Nat.{ℕ, zero, suc, _+_, _-_, _*_, _<_, _≤_}
+use Prim.Native.Nat.{ℕ, zero, suc, _+_, _-_, _<_, _≤_}
 use native.Mathlib.Nat.{add-zero, not-suc-le-zero}
 use native.Mathlib.Omega.{arith}
 use lib.Dec.{eqb, ltb}
-use lib.ListN.{length, getD, take, drop, length-drop, drop-of-length-le}
+use lib.ListN.{length, take, drop, length-drop, drop-of-length-le}
 use lib.Seq.{drop-nil, drop-drop, getD-drop}
-use borrow.Author.Tests.{lt-ltb, le-ltb, ltb-true, ltb-false}
+use borrow.Author.Tests.{lt-ltb, ltb-true, ltb-false}
 use Rattle.paper.specs.Base.{choose, sameb}
 use Rattle.paper.specs.Lookup.{u16-at, u32-at, label-place, label-at, label-of, first-of, search-from, look-up}
 use Rattle.paper.specs.declared.Found.{Found}
 use Rattle.paper.specs.declared.Found.the-variants.{At, Malformed, Missing}
 use Rattle.paper.proofs.Tests.{split}
+use Rattle.stream.proofs.Past.{past}
 use Rattle.stream.specs.Framing.{label-from, label-by, label-in, framing, kept}
 use Rattle.stream.specs.declared.walk.Record.{Record}
 use Rattle.stream.specs.declared.walk.Framing.{Framing}
@@ -105,14 +106,8 @@ pub record Stands (l : List ℕ) (at : ℕ) (r : Record) : Type 0 where
   pub stop : r .stop ≤ r .after
   pub kind : r .kind ≡ u16-at l (at + 4)
 
--- a test that did not come out bad
-pub record Past (t : Bool) (x : Framing) (r : Record) : Type 0 where
-  pub test : t ≡ false
-  pub rest : x ≡ Well r
-
-past : (t : Bool) (x : Framing) (r : Record) → choose t Badly x ≡ Well r → Past t x r
-past true x r e = let z : _≡_ {A = ℕ} 0 1 = cc in absurd (omega arith)
-past false x r e = record { test = refl; rest = e }
+not-well : (r : Record) → Badly ≡ Well r → ⊥
+not-well r e = let z : _≡_ {A = ℕ} 0 1 = cc in omega arith
 
 pub stands : (l : List ℕ) (at : ℕ) (r : Record) → framing l at ≡ Well r → Stands l at r
 unfolding framing label-in label-by label-from
@@ -122,12 +117,12 @@ stands l at r e =
     let k = u16-at l (at + 4) in
     let p = at + label-place k in
     let w = u32-at l p in
-    let a = past (ltb n (at + 4)) _ r e in
-    let b = past (ltb u 2) _ r (a .rest) in
-    let c = past (ltb n ((at + 4) + u)) _ r (b .rest) in
-    let d = past (eqb (label-place k) 0) _ r (c .rest) in
-    let f = past (ltb ((at + 4) + u) (p + 4)) _ r (d .rest) in
-    let g = past (ltb ((at + 4) + u) ((p + 4) + w)) _ r (f .rest) in
+    let a = past (ltb n (at + 4)) _ _ _ (not-well r) e in
+    let b = past (ltb u 2) _ _ _ (not-well r) (a .rest) in
+    let c = past (ltb n ((at + 4) + u)) _ _ _ (not-well r) (b .rest) in
+    let d = past (eqb (label-place k) 0) _ _ _ (not-well r) (c .rest) in
+    let f = past (ltb ((at + 4) + u) (p + 4)) _ _ _ (not-well r) (d .rest) in
+    let g = past (ltb ((at + 4) + u) ((p + 4) + w)) _ _ _ (not-well r) (f .rest) in
     let q : r .after ≡ (at + 4) + u = cc in
     let s : r .label ≡ p + 4 = cc in
     let t : r .stop ≡ (p + 4) + w = cc in

@@ -1,10 +1,10 @@
 -- The framing of the record at a place of a frame stream: its kind, where its label stands, and where the next starts.
 -- Document 01's sentence on well framed records, with places; proofs/Framing.antt says that it is the definition's.
-use mathlib.Core.Bool.{Bool, true, false}
+use mathlib.Core.Bool.{Bool}
 use mathlib.Core.List.{List}
-use Prim.Native.Nat.{ℕ, _+_, _-_}
+use Prim.Native.Nat.{ℕ, _+_}
 use lib.Dec.{eqb, ltb}
-use lib.ListN.{length, take, drop}
+use lib.ListN.{length}
 use Rattle.paper.specs.Base.{choose}
 use Rattle.paper.specs.Lookup.{u16-at, u32-at, label-place}
 use Rattle.paper.specs.declared.Found.{Found}

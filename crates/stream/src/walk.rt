@@ -3,7 +3,7 @@
 use paper::Found;
 ghost use mathlib.Core.Path.{_≡_};
 ghost use Prim.Native.Nat.{_+_, _-_, _<_, _≤_, _^_};
-ghost use lib.ListN.{length, drop};
+ghost use lib.ListN.{length};
 ghost use Rattle.paper.specs.Base.{sameb};
 ghost use Rattle.paper.specs.Lookup.{u16-at, u32-at, label-place, look-up};
 ghost use Rattle.stream.specs.Framing.{label-in, framing, kept};

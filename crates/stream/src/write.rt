@@ -30,8 +30,10 @@ pub fn put_u16(out: &mut [u8], at: usize, n: u64) -> usize
     if out.len() < end {
         return end;
     }
-    out[at] = (n % 256) as u8;
-    out[at + 1] = (n / 256 % 256) as u8;
+    let low = n % 256;
+    let high = n / 256 % 256;
+    out[at] = low as u8;
+    out[at + 1] = high as u8;
     end
 }
 

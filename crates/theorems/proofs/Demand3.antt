@@ -1,24 +1,23 @@
 -- Demand 3, proved: no refusal with the group blanked, and both streams without its records.
 -- The lemma S3 of the proof on paper, and the theorem.
 use mathlib.Core.Path.{_≡_, refl, sym, ap, _∙_, subst}
-use mathlib.Core.Bool.{Bool, true, false}
+use mathlib.Core.Bool.{Bool, false}
 use mathlib.Core.List.{List, [], _∷_, _++_}
-use mathlib.Core.Option.{Option, none, some}
-use Prim.Native.Nat.{ℕ, zero, suc, _+_, _*_, _<_, _≤_}
+use mathlib.Core.Option.{none}
+use Prim.Native.Nat.{ℕ, _+_, _<_, _≤_}
 use native.Mathlib.Omega.{arith}
 use lib.ListN.{length, replicate, length-append, length-replicate}
-use Rattle.paper.specs.Base.{choose, not, within, keep, find, gather}
-use Rattle.paper.specs.Tokens.{Token, tokens, bad-from}
+use Rattle.paper.specs.Base.{not, within, keep, gather}
+use Rattle.paper.specs.Tokens.{bad-from}
 use Rattle.paper.specs.Statements.{Statement, none-end, Item, ends}
-use Rattle.paper.specs.Reader.{given, items, words, reading}
-use Rattle.paper.specs.State.{State, nothing}
-use Rattle.paper.specs.Checks.{Diag}
-use Rattle.paper.specs.Frames.{Frame}
+use Rattle.paper.specs.Reader.{given, words, reading}
+use Rattle.paper.specs.State.{nothing}
 use Rattle.paper.specs.Give.{Given, gives, all-given}
 use Rattle.paper.specs.Records.{frame-record, diag-record, frame-records, diag-records, frame-stream, diag-stream}
-use Rattle.paper.specs.Answer.{number, crowded, frame-at, frames-in, Streams, streams, outcome, answer, laid, frames-exit, diags-exit}
+use Rattle.paper.specs.Answer.{crowded, frame-at, frames-in, Streams, streams, outcome, answer, frames-exit, diags-exit}
 use Rattle.paper.proofs.Lists.{gather-append, keep-append}
-use Rattle.paper.proofs.All.{All, nil, cons, all-append, all-left, all-right, all-map, all-gather, keep-all, keep-none, find-none, none-find}
+use Rattle.paper.proofs.Alls.{All, all-append, all-left, all-right, all-map, keep-all, keep-none}
+use Rattle.paper.proofs.Searches.{all-gather, find-none, none-find}
 use Rattle.theorems.specs.Groups.{Group, statements, blanked, Apart}
 use Rattle.theorems.specs.TakenOut.{taken-out, streams-without}
 use Rattle.theorems.specs.Demand3.{Blanked, Demand3, frame-outside, diag-outside, diags-in, Exact}
@@ -27,7 +26,7 @@ use Rattle.theorems.proofs.Parts.{Split, split-group, Three, three}
 use Rattle.theorems.proofs.Whole.{below-it, within-it, beyond-it}
 use Rattle.theorems.proofs.Fold.{Parted, parted}
 use Rattle.theorems.proofs.Offsets.{diags-at, frames-at}
-use Rattle.theorems.proofs.Refusals.{Good, clean-good, good-clean, blanks-good, Passed, passed, passing, Fits, Answered, answered, answering, number-zero}
+use Rattle.theorems.proofs.Refusals.{Good, clean-good, good-clean, blanks-good, Passed, passed, passing, Fits, answered, answering, number-zero}
 use Rattle.theorems.proofs.Records.{exact, frame-stream-is, diag-stream-is}
 
 -- ---- S3: numbers 1 to 3 with the group blanked
@@ -67,7 +66,8 @@ module _ {t : List ℕ} {p q : ℕ} (x : Parts t p q) where
       (all-append (blanks-good (4 + length (x .body))) (all-right (36 ∷ 125 ∷ []) (x .back) c))) 0)
 
 -- numbers 1 to 6
-blanked-passes : {t : List ℕ} {p q : ℕ} {i : List Item} {w : ℕ} {l : List Statement} (x : Split t p q i) → Passed t w l → Passed (blanked t p q) w (ends (x .front ++ x .back) [])
+blanked-passes : {t : List ℕ} {p q : ℕ} {i : List Item} {w : ℕ} {l : List Statement} (x : Split t p q i)
+    → Passed t w l → Passed (blanked t p q) w (ends (x .front ++ x .back) [])
 unfolding words
 blanked-passes {t} {p} {q} x h =
     record {
@@ -99,7 +99,9 @@ module _ {A B : Type 0} (f : A → List B) (a b c : List A) where
       (all-append (all-left (gather f a) (gather f (b ++ c)) g) (all-right (gather f b) (gather f c) k))
 
   -- the members outside the group are those of the outer parts
-  gather-kept : (at : B → ℕ) (p q : ℕ) → All (λ x. All (λ y. at y < p) (f x)) a → All (λ x. All (λ y. (p ≤ at y) × (at y < q)) (f x)) b → All (λ x. All (λ y. q < at y) (f x)) c → keep (λ y. not (within p q (at y))) (gather f (a ++ (b ++ c))) ≡ gather f (a ++ c)
+  gather-kept : (at : B → ℕ) (p q : ℕ) → All (λ x. All (λ y. at y < p) (f x)) a
+      → All (λ x. All (λ y. (p ≤ at y) × (at y < q)) (f x)) b → All (λ x. All (λ y. q < at y) (f x)) c
+      → keep (λ y. not (within p q (at y))) (gather f (a ++ (b ++ c))) ≡ gather f (a ++ c)
   gather-kept at p q h i j =
       let k : B → Bool = λ y. not (within p q (at y)) in
       rw (
@@ -144,7 +146,8 @@ module _ {w x : List Statement} {p q : ℕ} (h : Three w x p q) (k : Parted w x 
         diags-fit = rw (k .without) (omega (arith, gather-less diag-records a b c, rw (k .whole) at (y .diags-fit)));
       }
 
-  streams-are : Exact w (streams (all-given w)) p q → streams (all-given x) ≡ streams-without p q (streams (all-given w))
+  streams-are : Exact w (streams (all-given w)) p q
+      → streams (all-given x) ≡ streams-without p q (streams (all-given w))
   streams-are e =
       let a : taken-out p q (frame-stream (all-given w)) ≡ frame-stream (all-given x) =
       e .frames-stay ∙ (ap (gather frame-record) frames-kept ∙ sym (frame-stream-is (all-given x))) in
@@ -154,7 +157,8 @@ module _ {w x : List Statement} {p q : ℕ} (h : Three w x p q) (k : Parted w x 
 
 -- ---- the theorem
 -- by the outcome of the blanked text
-pub blanked-gives : (t w f d : List ℕ) (p q : ℕ) (s : Streams) → outcome t (length w) (length f) (length d) ≡ given s → outcome (blanked t p q) (length w) (length f) (length d) ≡ given (streams-without p q s) → Blanked t w f d p q
+pub blanked-gives : (t w f d : List ℕ) (p q : ℕ) (s : Streams) → outcome t (length w) (length f) (length d) ≡ given s
+    → outcome (blanked t p q) (length w) (length f) (length d) ≡ given (streams-without p q s) → Blanked t w f d p q
 unfolding answer frames-exit diags-exit
 blanked-gives t w f d p q s a b =
     record {
@@ -166,7 +170,9 @@ blanked-gives t w f d p q s a b =
       diags-held = rw b;
     }
 
-without-it : (t : List ℕ) (w f d p q : ℕ) (s : Streams) (g : Group t p q) → reading t w ≡ given (statements g) → Fits (all-given (statements g)) f d → streams (all-given (statements g)) ≡ s → Apart (statements g) p q → outcome (blanked t p q) w f d ≡ given (streams-without p q s)
+without-it : (t : List ℕ) (w f d p q : ℕ) (s : Streams) (g : Group t p q) → reading t w ≡ given (statements g)
+    → Fits (all-given (statements g)) f d → streams (all-given (statements g)) ≡ s → Apart (statements g) p q
+    → outcome (blanked t p q) w f d ≡ given (streams-without p q s)
 without-it t w f d p q s g r y e a =
     let l = statements g in
     let h = passed t w l r in

@@ -1,20 +1,18 @@
 -- Ends: closers and ends of one part after another; a group leaves the closers after it alone, and all inside it ends by its `$}`.
 -- The lemmas E1 to E4 of the proof on paper.
-use mathlib.Core.Path.{_≡_, refl, sym, ap, _∙_}
-use mathlib.Core.Bool.{Bool, true, false}
-use mathlib.Core.List.{List, [], _∷_, _++_, append-assoc, nil≢cons}
-use mathlib.Core.Option.{Option, none, some}
-use Prim.Native.Nat.{ℕ, zero, suc, _+_, _<_, _≤_}
+use mathlib.Core.Path.{_≡_, refl, ap, _∙_}
+use mathlib.Core.List.{List, [], _∷_, _++_, nil≢cons}
+use mathlib.Core.Option.{some}
+use Prim.Native.Nat.{ℕ, zero, suc, _<_, _≤_}
 use native.Mathlib.Omega.{arith}
 use lib.Dec.{eqb}
 use lib.ListN.{length, drop}
 use borrow.Author.Tests.{eqb-true}
-use Rattle.paper.specs.Base.{choose}
 use Rattle.paper.specs.Statements.{Statement, Item, opens, closes, states, top, tail, onto, closers, ended, with-end, ends}
 use Rattle.paper.proofs.Tests.{split}
 use Rattle.theorems.specs.Groups.{first, closer}
-use Rattle.paper.proofs.All.{All, nil, cons}
-use Rattle.theorems.proofs.Reader.{Level, flat, opened, shut-one, stated, item-at, ItemAt}
+use Rattle.paper.proofs.Alls.{All, all-none, all-more}
+use Rattle.theorems.proofs.Reader.{Level, flat, opened, shut-one, stated, ItemAt}
 
 -- ---- E1
 pub closers-append : (i j : List Item) (l : List ℕ) → closers (i ++ j) l ≡ closers i (closers j l)
@@ -37,10 +35,10 @@ ends-append (x ∷ i) j l =
 -- what holds of where items stand holds of where their statements stand
 pub ends-at : (P : ℕ → Type 0) {i : List Item} (l : List ℕ) → All (ItemAt P) i → All (λ s. P (s .at)) (ends i l)
 unfolding ends
-ends-at P l nil = nil
-ends-at P l (cons {x = opens p} h a) = ends-at P l a
-ends-at P l (cons {x = closes p} h a) = ends-at P l a
-ends-at P l (cons {x = states s} {l = i} h a) = cons {x = ended (top (closers i l)) s} h (ends-at P l a)
+ends-at P l all-none = all-none
+ends-at P l (all-more {x = opens p} h a) = ends-at P l a
+ends-at P l (all-more {x = closes p} h a) = ends-at P l a
+ends-at P l (all-more {x = states s} {l = i} h a) = all-more {x = ended (top (closers i l)) s} h (ends-at P l a)
 
 -- ---- the items of a group: from its `${` to the `$}` that closes it
 record Own (r : List Item) (k q : ℕ) : Type 0 where
@@ -139,26 +137,27 @@ pub record Above (i : List Item) (d q : ℕ) (l : List ℕ) : Type 0 where
   pub count : length more ≡ d
   pub low : All (λ n. n < q) more
 
-pop : {c : List ℕ} {d q : ℕ} {l : List ℕ} (m : List ℕ) → c ≡ m ++ (q ∷ l) → length m ≡ suc d → All (λ n. n < q) m → (k : List ℕ) × (tail c ≡ k ++ (q ∷ l)) × (length k ≡ d) × All (λ n. n < q) k
+pop : {c : List ℕ} {d q : ℕ} {l : List ℕ} (m : List ℕ) → c ≡ m ++ (q ∷ l) → length m ≡ suc d → All (λ n. n < q) m
+    → (k : List ℕ) × (tail c ≡ k ++ (q ∷ l)) × (length k ≡ d) × All (λ n. n < q) k
 pop [] e h a = absurd (omega arith)
-pop (x ∷ m) e h (cons b a) = (m, ap tail e, omega arith, a)
+pop (x ∷ m) e h (all-more b a) = (m, ap tail e, omega arith, a)
 
 pub above : {i : List Item} {d : ℕ} (q : ℕ) (l : List ℕ) → Level i d 0 → All (ItemAt (λ n. n < q)) i → Above i d q l
 unfolding closers
-above q l flat nil = record { more = []; are = refl; count = refl; low = nil }
-above q l (opened v) (cons h a) =
+above q l flat all-none = record { more = []; are = refl; count = refl; low = all-none }
+above q l (opened v) (all-more h a) =
     let r = above q l v a in
     let k = pop (r .more) (r .are) (r .count) (r .low) in
     record { more = k .0; are = k .1; count = k .2; low = k .3 }
-above q l (shut-one {q = o} v) (cons h a) =
+above q l (shut-one {q = o} v) (all-more h a) =
     let r = above q l v a in
     record {
       more = o ∷ r .more;
       are = ap (λ (x : List ℕ). o ∷ x) (r .are);
       count = omega (arith, r .count);
-      low = cons h (r .low);
+      low = all-more h (r .low);
     }
-above q l (stated v) (cons h a) =
+above q l (stated v) (all-more h a) =
     let r = above q l v a in
     record { more = r .more; are = r .are; count = r .count; low = r .low }
 
@@ -167,19 +166,21 @@ none-more [] e h = e
 none-more (x ∷ m) e h = absurd (omega arith)
 
 -- a group leaves the closers after it alone
-pub neutral : {i : List Item} (q : ℕ) (l : List ℕ) → Level i 0 0 → All (ItemAt (λ n. n < q)) i → closers i (q ∷ l) ≡ q ∷ l
+pub neutral : {i : List Item} (q : ℕ) (l : List ℕ) → Level i 0 0 → All (ItemAt (λ n. n < q)) i
+    → closers i (q ∷ l) ≡ q ∷ l
 neutral q l v a = let r = above q l v a in none-more (r .more) (r .are) (r .count)
 
 -- ---- E4: all inside ends by q
 top-low : (q : ℕ) (l m : List ℕ) → All (λ n. n < q) m → top (m ++ (q ∷ l)) ≤ q
-top-low q l [] nil = omega arith
-top-low q l (x ∷ m) (cons h a) = omega arith
+top-low q l [] all-none = omega arith
+top-low q l (x ∷ m) (all-more h a) = omega arith
 
-pub ends-low : {i : List Item} {d : ℕ} (q : ℕ) (l : List ℕ) → Level i d 0 → All (ItemAt (λ n. n < q)) i → All (λ s. s .end ≤ q) (ends i (q ∷ l))
+pub ends-low : {i : List Item} {d : ℕ} (q : ℕ) (l : List ℕ) → Level i d 0 → All (ItemAt (λ n. n < q)) i
+    → All (λ s. s .end ≤ q) (ends i (q ∷ l))
 unfolding ends
-ends-low q l flat nil = nil
-ends-low q l (opened v) (cons h a) = ends-low q l v a
-ends-low q l (shut-one v) (cons h a) = ends-low q l v a
-ends-low q l (stated {s = s} {i = i} v) (cons h a) =
+ends-low q l flat all-none = all-none
+ends-low q l (opened v) (all-more h a) = ends-low q l v a
+ends-low q l (shut-one v) (all-more h a) = ends-low q l v a
+ends-low q l (stated {s = s} {i = i} v) (all-more h a) =
     let r = above q l v a in
-    cons {x = ended (top (closers i (q ∷ l))) s} (rw (r .are) (top-low q l (r .more) (r .low))) (ends-low q l v a)
+    all-more {x = ended (top (closers i (q ∷ l))) s} (rw (r .are) (top-low q l (r .more) (r .low))) (ends-low q l v a)

@@ -1,21 +1,19 @@
 -- The fold over the statements: one part after another, and what a group has recorded is inactive after it.
 -- The lemmas F1 to F7 of the proof on paper.
 use mathlib.Core.Path.{_≡_, refl, sym, ap, _∙_, subst}
-use mathlib.Core.Bool.{Bool, true, false}
 use mathlib.Core.List.{List, [], _∷_, _++_, append-nil}
 use Prim.Native.Nat.{ℕ, _<_, _≤_}
 use native.Mathlib.Omega.{arith}
 use borrow.Author.Tests.{le-ltb}
-use Rattle.paper.specs.Base.{choose, keep}
 use Rattle.paper.specs.Tokens.{Token}
 use Rattle.paper.specs.Statements.{Kind, $c, $v, $d, $f, $e, $a, $p, Statement, none-end, outermost}
-use Rattle.paper.specs.State.{Nested, Hyp, hyp-end, Disjoint, State, nothing, plus, active-nested, active-hyp, active-disjoint, view}
+use Rattle.paper.specs.State.{Nested, hyp-end, State, nothing, plus, active-nested, active-hyp, active-disjoint, view}
 use Rattle.paper.specs.Checks.{Diag, Verdict, against, record-it, verdict, recorded-by, records, nested-records, check-label, check-float, check-expression, check-disjoint}
 use Rattle.paper.specs.Frames.{Frame}
 use Rattle.paper.specs.Give.{Given, accept, unless, give-c, give-v, give-d, give-f, give-e, give-assertion, give-by, give, gives, all-given}
 use Rattle.paper.proofs.Tests.{split}
 use Rattle.paper.proofs.Lists.{keep-append}
-use Rattle.paper.proofs.All.{All, nil, cons, all-append, all-left, all-right, all-map, keep-none}
+use Rattle.paper.proofs.Alls.{All, all-none, all-more, all-append, all-left, all-right, all-map, keep-none}
 use Rattle.theorems.specs.Groups.{Apart}
 use Rattle.theorems.proofs.Parts.{Three}
 use Rattle.theorems.proofs.Whole.{Agree, give-same, agree}
@@ -44,9 +42,10 @@ pub record Carries (e : ℕ) (r : State) : Type 0 where
   pub disjoints : All (λ x. x .end ≡ e) (r .disjoints)
 
 carries-nothing : (e : ℕ) → Carries e nothing
-carries-nothing e = record { nested = nil; hyps = nil; disjoints = nil }
+carries-nothing e = record { nested = all-none; hyps = all-none; disjoints = all-none }
 
-accept-carries : (d : List Diag) {e : ℕ} {r : State} (f : List Frame) → Carries e r → Carries e (accept d r f .records)
+accept-carries : (d : List Diag) {e : ℕ} {r : State} (f : List Frame) → Carries e r
+    → Carries e (accept d r f .records)
 accept-carries [] f c = c
 accept-carries (x ∷ d) {e} f c = carries-nothing e
 
@@ -55,12 +54,13 @@ unless-carries [] g c = c
 unless-carries (x ∷ d) {e} g c = carries-nothing e
 
 recorded-carries : (v : Verdict) (e : ℕ) (t : Token) → All (λ x. x .end ≡ e) (recorded-by v e t)
-recorded-carries (against k o) e t = nil
-recorded-carries record-it e t = cons refl nil
+recorded-carries (against k o) e t = all-none
+recorded-carries record-it e t = all-more refl all-none
 
-records-carry : (w : List Statement) (e : ℕ) (l : List Token) (k : List Nested) → All (λ x. x .end ≡ e) (nested-records w e l k)
+records-carry : (w : List Statement) (e : ℕ) (l : List Token) (k : List Nested)
+    → All (λ x. x .end ≡ e) (nested-records w e l k)
 unfolding nested-records records
-records-carry w e [] k = nil
+records-carry w e [] k = all-none
 records-carry w e (t ∷ l) k =
     all-append (recorded-carries (verdict w k t) e t) (records-carry w e l (k ++ recorded-by (verdict w k t) e t))
 
@@ -71,15 +71,15 @@ carries-by $c w v s =
 carries-by $v w v s =
     split (outermost s)
     (λ e. rw e (carries-nothing (s .end)))
-    (λ e. rw e (record { nested = records-carry w (s .end) (s .math) (v .nested); hyps = nil; disjoints = nil }))
+    (λ e. rw e (record { nested = records-carry w (s .end) (s .math) (v .nested); hyps = all-none; disjoints = all-none }))
 carries-by $d w v s =
-    accept-carries (check-disjoint w v s) [] (record { nested = nil; hyps = nil; disjoints = cons refl nil })
+    accept-carries (check-disjoint w v s) [] (record { nested = all-none; hyps = all-none; disjoints = all-more refl all-none })
 carries-by $f w v s =
     unless-carries (check-label w s) _
-    (accept-carries (check-float w v s) _ (record { nested = nil; hyps = cons refl nil; disjoints = nil }))
+    (accept-carries (check-float w v s) _ (record { nested = all-none; hyps = all-more refl all-none; disjoints = all-none }))
 carries-by $e w v s =
     unless-carries (check-label w s) _
-    (accept-carries (check-expression w v s) _ (record { nested = nil; hyps = cons refl nil; disjoints = nil }))
+    (accept-carries (check-expression w v s) _ (record { nested = all-none; hyps = all-more refl all-none; disjoints = all-none }))
 carries-by $a w v s =
     unless-carries (check-label w s) _ (accept-carries (check-expression w v s) _ (carries-nothing (s .end)))
 carries-by $p w v s =
@@ -115,10 +115,11 @@ plus-nothing x = rw (append-nil (x .nested), append-nil (x .hyps), append-nil (x
 abbrev pub Alike : ℕ → State → State → Type 0
 Alike q x y = (a : ℕ) → q < a → view x a ≡ view y a
 
-pub quiet : {q : ℕ} (w : List Statement) {l : List Statement} → All (λ s. s .end ≤ q) l → (x : State) → Alike q (later w l x) x
+pub quiet : {q : ℕ} (w : List Statement) {l : List Statement} → All (λ s. s .end ≤ q) l → (x : State)
+    → Alike q (later w l x) x
 unfolding later
-quiet w nil x a h = refl
-quiet w (cons {x = s} k b) x a h =
+quiet w all-none x a h = refl
+quiet w (all-more {x = s} k b) x a h =
     let r = give w (view x (s .at)) s .records in
     quiet w b (plus x r) a h
     ∙ (view-plus x r a
@@ -126,19 +127,21 @@ quiet w (cons {x = s} k b) x a h =
     ∙ plus-nothing (view x a)))
 
 -- ---- F3: before the group
-pub before-same : {w u l : List Statement} → All (Agree w u) l → (x : State) → (gives w l x ≡ gives u l x) × (later w l x ≡ later u l x)
+pub before-same : {w u l : List Statement} → All (Agree w u) l → (x : State)
+    → (gives w l x ≡ gives u l x) × (later w l x ≡ later u l x)
 unfolding gives later
-before-same nil x = (refl, refl)
-before-same {w} {u} (cons {x = s} {l = l} h a) x =
+before-same all-none x = (refl, refl)
+before-same {w} {u} (all-more {x = s} {l = l} h a) x =
     let e = give-same h (view x (s .at)) in
     let r = before-same a (plus x (give u (view x (s .at)) s .records)) in
     (rw e (ap (λ (k : List Given). give u (view x (s .at)) s ∷ k) (r .0)), rw e (r .1))
 
 -- ---- F6: after the group
-pub behind-same : {w u l : List Statement} {q : ℕ} (x y : State) → Alike q x y → All (λ s. q < s .at) l → All (Agree w u) l → gives w l x ≡ gives u l y
+pub behind-same : {w u l : List Statement} {q : ℕ} (x y : State) → Alike q x y → All (λ s. q < s .at) l
+    → All (Agree w u) l → gives w l x ≡ gives u l y
 unfolding gives
-behind-same x y k nil nil = refl
-behind-same {w} {u} {q = q} x y k (cons {x = s} p b) (cons h a) =
+behind-same x y k all-none all-none = refl
+behind-same {w} {u} {q = q} x y k (all-more {x = s} p b) (all-more h a) =
     let g = give u (view y (s .at)) s in
     let v : view x (s .at) ≡ view y (s .at) = k (s .at) p in
     let e : give w (view x (s .at)) s ≡ g = rw v (give-same h (view y (s .at))) in
@@ -153,10 +156,11 @@ pub record Parted (w x : List Statement) (h : List Statement) (i : List Statemen
   pub whole : all-given w ≡ gives w h nothing ++ (gives w i first ++ gives w b third)
   pub without : all-given x ≡ gives w h nothing ++ gives w b third
 
-pub parted : {w x : List Statement} {p q : ℕ} (h : Three w x p q) → q < none-end → Apart w p q → Parted w x (h .before) (h .within-it) (h .behind)
+pub parted : {w x : List Statement} {p q : ℕ} (h : Three w x p q) → q < none-end → Apart w p q
+    → Parted w x (h .before) (h .within-it) (h .behind)
 unfolding all-given
 parted {w} {x} {p} {q} h k a =
-    let g : All (Agree w x) (h .before ++ h .behind) = subst (All (Agree w x)) (h .without) (agree h k a) in
+    let g : All (Agree w x) (h .before ++ h .behind) = subst (All (Agree w x)) (h .without) (agree h a k) in
     let b = before-same (all-left (h .before) (h .behind) g) nothing in
     let first = later w (h .before) nothing in
     let third = later w (h .within-it) first in

@@ -1,18 +1,17 @@
 -- Lengths: every record of a text's streams is shorter than its length field can say.
 -- By the text's length, and by number 7 for the pairs and rows of a frame.
-use mathlib.Core.Path.{_≡_, refl, sym, ap, _∙_}
-use mathlib.Core.Bool.{Bool, true, false}
+use mathlib.Core.Path.{_≡_, refl, ap, _∙_}
+use mathlib.Core.Bool.{Bool, false}
 use mathlib.Core.List.{List, [], _∷_, _++_, map}
 use Prim.Native.Nat.{ℕ, zero, suc, _+_, _*_, _/_, _<_, _≤_}
 use native.Mathlib.Omega.{arith}
-use lib.Dec.{ltb}
 use lib.ListN.{length, length-append, length-map}
 use borrow.Author.Tests.{ltb-false}
-use Rattle.paper.specs.Base.{choose, keep, gather, table}
+use Rattle.paper.specs.Base.{keep, gather, table}
 use Rattle.paper.specs.Statements.{Statement}
 use Rattle.paper.specs.State.{Symbol, con, var, Formula, Hyp, float, essential, Disjoint, State}
-use Rattle.paper.specs.Frames.{member, see, sights, variable-in, variables-of, formula-in, raised, constant-in, pool-of, fragment-at, begun, reached, fragments, rump, expression, hypothesis, pooled, hypotheses, outer, inner, in-order, Pair, pairs, apart, row, rows, Full, Frame, stub, full, mandatory, frame-of}
-use Rattle.paper.specs.Records.{le, u16, u32, string, framed, fragment-bytes, expression-bytes, hypothesis-bytes, pair-bytes, octet, row-bytes, full-payload, frame-record}
+use Rattle.paper.specs.Frames.{member, see, sights, variable-in, variables-of, formula-in, raised, constant-in, pool-of, fragment-at, begun, reached, fragments, expression, hypothesis, pooled, hypotheses, outer, inner, in-order, Pair, pairs, apart, row, rows, Frame, stub, full, mandatory, frame-of}
+use Rattle.paper.specs.Records.{le, u16, u32, string, framed, fragment-bytes, expression-bytes, hypothesis-bytes, pair-bytes, row-bytes, full-payload, frame-record}
 use Rattle.paper.specs.Answer.{crowded, frame-at}
 use Rattle.paper.proofs.Tests.{split}
 use Rattle.paper.proofs.Lists.{gather-append}
@@ -24,7 +23,8 @@ none-gathered : {A : Type 0} (f : A → List ℕ) {n : ℕ} → length (gather f
 unfolding gather
 none-gathered f = omega arith
 
-gathered : {A : Type 0} (f : A → List ℕ) (l m : List A) → length (gather f (l ++ m)) ≡ length (gather f l) + length (gather f m)
+gathered : {A : Type 0} (f : A → List ℕ) (l m : List A)
+    → length (gather f (l ++ m)) ≡ length (gather f l) + length (gather f m)
 gathered f l m = ap length (gather-append f l m) ∙ length-append (gather f l) (gather f m)
 
 -- ---- numbers and strings
@@ -60,13 +60,15 @@ strings-length l =
     )
 
 -- ---- expressions and hypotheses
-fragment-length : (l : List (List ℕ)) (x : Symbol) (a b : ℕ) → length (gather fragment-bytes (fragment-at l x a b)) ≤ 10 * symbol-weight x
+fragment-length : (l : List (List ℕ)) (x : Symbol) (a b : ℕ)
+    → length (gather fragment-bytes (fragment-at l x a b)) ≤ 10 * symbol-weight x
 unfolding gather fragment-bytes
 fragment-length l (con n) a b = omega arith
 fragment-length l (var n) a b =
     simp (length-append, u32-length, u16-length) (omega arith)
 
-fragments-length : (l : List (List ℕ)) (m : List Symbol) (a b : ℕ) → length (gather fragment-bytes (fragments l m a b)) ≤ 10 * total symbol-weight m
+fragments-length : (l : List (List ℕ)) (m : List Symbol) (a b : ℕ)
+    → length (gather fragment-bytes (fragments l m a b)) ≤ 10 * total symbol-weight m
 unfolding fragments total
 fragments-length l [] a b = none-gathered fragment-bytes
 fragments-length l (x ∷ m) a b =
@@ -77,12 +79,14 @@ fragments-length l (x ∷ m) a b =
       fragments-length l m (begun x a b) (reached x b),
     )
 
-expression-length : (l : List (List ℕ)) (f : Formula) (a : ℕ) → length (expression-bytes (expression l f a)) ≤ 16 + 10 * formula-weight f
+expression-length : (l : List (List ℕ)) (f : Formula) (a : ℕ)
+    → length (expression-bytes (expression l f a)) ≤ 16 + 10 * formula-weight f
 unfolding expression-bytes expression
 expression-length l f a =
     simp (length-append, u32-length, string-length) (omega (arith, fragments-length l (f .body) a a))
 
-hypothesis-length : (m : List (List ℕ)) (h : Hyp) (a : ℕ) → length (gather hypothesis-bytes (hypothesis m h a)) ≤ 22 * hyp-weight h
+hypothesis-length : (m : List (List ℕ)) (h : Hyp) (a : ℕ)
+    → length (gather hypothesis-bytes (hypothesis m h a)) ≤ 22 * hyp-weight h
 unfolding gather hypothesis-bytes
 hypothesis-length m (float o e v c) a =
     split (member v m)
@@ -91,7 +95,8 @@ hypothesis-length m (float o e v c) a =
 hypothesis-length m (essential o e f) a =
     simp (length-append, u16-length, u32-length) (omega (arith, expression-length m f a))
 
-hypotheses-length : (m : List (List ℕ)) (l : List Hyp) (a : ℕ) → length (gather hypothesis-bytes (hypotheses m l a)) ≤ 22 * total hyp-weight l
+hypotheses-length : (m : List (List ℕ)) (l : List Hyp) (a : ℕ)
+    → length (gather hypothesis-bytes (hypotheses m l a)) ≤ 22 * total hyp-weight l
 unfolding hypotheses total
 hypotheses-length m [] a = none-gathered hypothesis-bytes
 hypotheses-length m (h ∷ l) a =
@@ -171,7 +176,8 @@ formulas-weight l =
       total-times 1 (λ f. total name-weight (variables-of f)) formula-weight (λ f. omega (arith, variables-weight f)) l,
     )
 
-mandatory-weight : (h : List Hyp) (f : Formula) → total name-weight (mandatory h f) ≤ total hyp-weight h + formula-weight f
+mandatory-weight : (h : List Hyp) (f : Formula)
+    → total name-weight (mandatory h f) ≤ total hyp-weight h + formula-weight f
 unfolding mandatory total
 mandatory-weight h f =
     omega (
@@ -211,7 +217,8 @@ row-length : (r : List Bool) → length (row-bytes r) ≡ (length r + 7) / 8
 unfolding row-bytes
 row-length r = table-length _ ((length r + 7) / 8)
 
-rows-length : (l : List (List ℕ)) (d : List (List (List ℕ))) (k : List (List ℕ)) → length l ≤ 4095 → length (gather row-bytes (map (row l d) k)) ≤ 512 * length k
+rows-length : (l : List (List ℕ)) (d : List (List (List ℕ))) (k : List (List ℕ)) → length l ≤ 4095
+    → length (gather row-bytes (map (row l d) k)) ≤ 512 * length k
 unfolding gather
 rows-length l d [] h = omega arith
 rows-length l d (x ∷ k) h =
@@ -254,7 +261,9 @@ pub stub-short : (o e : ℕ) (n c v : List ℕ) → length n + (length c + lengt
 stub-short o e n c v h =
     simp (length-append, u32-length, string-length) (omega (arith, raised-length v))
 
-pub full-short : (k : ℕ) (s : Statement) (v : State) (f : Formula) → state-weight v + (formula-weight f + length (s .label)) ≤ 16777217 → crowded (frame-of k s v f) ≡ false → Short (frame-of k s v f)
+pub full-short : (k : ℕ) (s : Statement) (v : State) (f : Formula)
+    → state-weight v + (formula-weight f + length (s .label)) ≤ 16777217 → crowded (frame-of k s v f) ≡ false
+    → Short (frame-of k s v f)
 unfolding frame-of rows
 full-short k s v f h c =
     let m = mandatory (v .hyps) f in

@@ -13,3 +13,5 @@ pub mod Lengths
 pub mod Refusals
 pub mod Records
 pub mod Demand3
+pub mod Examples
+pub mod Unique

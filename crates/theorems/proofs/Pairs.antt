@@ -1,17 +1,18 @@
 -- The pairs of a frame are few: their numbers are below 4,096, and no two pairs are the same.
 -- Counted by the codes that no pair has taken yet.
-use mathlib.Core.Path.{_≡_, refl, sym, ap, _∙_, subst}
+use mathlib.Core.Path.{_≡_, refl, sym, _∙_, subst}
 use mathlib.Core.Bool.{Bool, true, false}
 use mathlib.Core.List.{List, [], _∷_, _++_, map, append-nil}
 use Prim.Native.Nat.{ℕ, zero, suc, _+_, _*_, _<_, _≤_}
 use native.Mathlib.Omega.{arith}
 use lib.Dec.{eqb}
 use lib.ListN.{length}
-use borrow.Author.Tests.{eq-eqb, ne-eqb, eqb-true}
-use Rattle.paper.specs.Base.{choose, and, or, sameb, any, keep, gather}
-use Rattle.paper.specs.Frames.{member, index, Pair, pair, pairs-in, mandatory-in, same-pair, new-pair, new-pairs, pairs-by, pairs}
+use borrow.Author.Tests.{eq-eqb, eqb-true}
+use Rattle.paper.specs.Base.{choose, sameb, any, keep, gather}
+use Rattle.paper.specs.Frames.{member, index, Pair, pair, pairs-in, mandatory-in, same-pair, new-pairs, pairs-by, pairs}
 use Rattle.paper.proofs.Tests.{split, clash, eqb-ne, same-eq, eq-same}
-use Rattle.paper.proofs.All.{All, nil, cons, all-append, all-map, all-gather, any-left, any-right}
+use Rattle.paper.proofs.Alls.{All, all-none, all-more, all-append}
+use Rattle.paper.proofs.Searches.{any-left, any-right}
 
 -- ---- the codes that are free
 abbrev code : Pair → ℕ
@@ -47,7 +48,8 @@ unfolding any
 any-last x l = any-right (has (code x)) l (x ∷ []) (rw (eq-eqb (code x) (code x) refl))
 
 -- a pair with a free code takes it
-free-taken : (n : ℕ) (l : List Pair) (x : Pair) → code x < n → any (has (code x)) l ≡ false → suc (free n (l ++ (x ∷ []))) ≤ free n l
+free-taken : (n : ℕ) (l : List Pair) (x : Pair) → code x < n → any (has (code x)) l ≡ false
+    → suc (free n (l ++ (x ∷ []))) ≤ free n l
 unfolding free
 free-taken zero l x h e = omega arith
 free-taken (suc c) l x h e =
@@ -76,8 +78,8 @@ same-code x y g h e =
 
 any-code : (x : Pair) {l : List Pair} → Low x → All Low l → any (same-pair x) l ≡ false → any (has (code x)) l ≡ false
 unfolding any
-any-code x g nil e = refl
-any-code x g (cons {x = y} h a) e =
+any-code x g all-none e = refl
+any-code x g (all-more {x = y} h a) e =
     split (eqb (code y) (code x))
     (λ k. absurd (clash (rw (same-code x y g h (eqb-true (code y) (code x) k)) at e)))
     (λ k.
@@ -87,13 +89,13 @@ any-code x g (cons {x = y} h a) e =
 
 new-few : {m l : List Pair} → All Low m → All Low l → length (new-pairs m l) ≤ free 16777216 l
 unfolding new-pairs
-new-few nil b = omega arith
-new-few {l = l} (cons {x = x} {l = m} h a) b =
+new-few all-none b = omega arith
+new-few {l = l} (all-more {x = x} {l = m} h a) b =
     split (any (same-pair x) l)
     (λ e. rw (e, append-nil l) (new-few a b))
     (λ e.
     rw e
-    (omega (arith, free-taken 16777216 l x (omega arith) (any-code x h b e), new-few a (all-append b (cons h nil)))))
+    (omega (arith, free-taken 16777216 l x (omega arith) (any-code x h b e), new-few a (all-append b (all-more h all-none)))))
 
 -- ---- the numbers of mandatory variables
 index-low : (m : List (List ℕ)) (n : List ℕ) → member n m ≡ true → index m n < length m
@@ -112,26 +114,26 @@ index-low (x ∷ m) n e =
 
 mandatory-low : (m d : List (List ℕ)) → All (λ n. n < length m) (mandatory-in m d)
 unfolding keep
-mandatory-low m [] = nil
+mandatory-low m [] = all-none
 mandatory-low m (n ∷ d) =
     split (member n m)
-    (λ e. rw e (cons (index-low m n e) (mandatory-low m d)))
+    (λ e. rw e (all-more (index-low m n e) (mandatory-low m d)))
     (λ e. rw e (mandatory-low m d))
 
 pair-low : {k x : ℕ} {l : List ℕ} → k ≤ 4096 → x < k → All (λ n. n < k) l → All Low (map (pair x) l)
-pair-low h g nil = nil
-pair-low {x = x} h g (cons {x = y} b a) = cons {x = pair x y} (omega arith, omega arith) (pair-low h g a)
+pair-low h g all-none = all-none
+pair-low {x = x} h g (all-more {x = y} b a) = all-more {x = pair x y} (omega arith, omega arith) (pair-low h g a)
 
 pairs-low : {k : ℕ} {l : List ℕ} → k ≤ 4096 → All (λ n. n < k) l → All Low (pairs-in l)
 unfolding pairs-in
-pairs-low h nil = nil
-pairs-low h (cons b a) = all-append (pair-low h b a) (pairs-low h a)
+pairs-low h all-none = all-none
+pairs-low h (all-more b a) = all-append (pair-low h b a) (pairs-low h a)
 
 gather-low : (m : List (List ℕ)) (d : List (List (List ℕ))) → length m ≤ 4096 → All Low (gather (pairs-by m) d)
 unfolding gather
-gather-low m [] h = nil
+gather-low m [] h = all-none
 gather-low m (x ∷ d) h = all-append (pairs-low h (mandatory-low m x)) (gather-low m d h)
 
 pub pairs-few : (m : List (List ℕ)) (d : List (List (List ℕ))) → length m ≤ 4096 → length (pairs m d) ≤ 16777216
 unfolding pairs
-pairs-few m d h = omega (arith, new-few (gather-low m d h) nil, free-few 16777216 [])
+pairs-few m d h = omega (arith, new-few (gather-low m d h) all-none, free-few 16777216 [])

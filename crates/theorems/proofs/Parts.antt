@@ -1,22 +1,22 @@
 -- The three parts of a text with a group: before it, in it, after it; as items, as tokens and as bytes.
 -- With the group blanked the reader reads the items before it and after it: the lemmas T6, V3, R5 and R7 of the proof on paper.
 use mathlib.Core.Path.{_≡_, refl, sym, ap, _∙_}
-use mathlib.Core.Bool.{Bool, true, false}
+use mathlib.Core.Bool.{true}
 use mathlib.Core.List.{List, [], _∷_, _++_}
-use mathlib.Core.Option.{Option, none, some}
+use mathlib.Core.Option.{some}
 use Prim.Native.Nat.{ℕ, zero, suc, _+_, _<_, _≤_}
 use native.Mathlib.Omega.{arith}
 use lib.ListN.{length, replicate, length-append}
 use Rattle.paper.specs.Tokens.{Token, key, toks, tokens}
-use Rattle.paper.specs.Comments.{Place, outside, inside, next, after, visible}
-use Rattle.paper.specs.Statements.{Statement, Item, opens, closes, states, closers, ends}
-use Rattle.paper.specs.Reader.{Mode, start, named, math, proof, Step, go, stop, many, Outcome, given, refused, finish, close, ending, items}
+use Rattle.paper.specs.Comments.{Place, outside, inside, after, visible}
+use Rattle.paper.specs.Statements.{Statement, Item, opens, closes, closers, ends}
+use Rattle.paper.specs.Reader.{Mode, start, named, math, proof, Step, go, stop, many, given, finish, ending, items}
 use Rattle.paper.proofs.Tests.{same-eq}
 use Rattle.theorems.specs.Groups.{closer, blanked}
-use Rattle.paper.proofs.All.{All, all-map}
-use Rattle.theorems.proofs.Tokens.{Cut, cut, Within, toks-within, Parts, blanked-parts, toks-parts}
-use Rattle.theorems.proofs.Comments.{after-append, visible-append, visible-all, Shown, shown-cut, shown-after}
-use Rattle.theorems.proofs.Reader.{Reads, many-reads, reads-many, reads-append, Level, reads-level, level-shift, TokenAt, ItemAt, reads-at, reads-cut, Opened, Closed, brace-opened, brace-closed}
+use Rattle.paper.proofs.Alls.{All, all-map}
+use Rattle.theorems.proofs.Tokens.{cut, toks-within, Parts, blanked-parts, toks-parts}
+use Rattle.theorems.proofs.Comments.{after-append, visible-append, visible-all, shown-cut, shown-after}
+use Rattle.theorems.proofs.Reader.{Reads, many-reads, reads-many, reads-append, Level, reads-level, level-shift, TokenAt, ItemAt, reads-at, reads-cut, brace-opened, brace-closed}
 use Rattle.theorems.proofs.Ends.{closers-append, ends-append, ends-at, Owned, owned, neutral, ends-low}
 
 -- ---- a text is read: the reader stands between statements, at depth 0, outside comments
@@ -65,10 +65,12 @@ record Braces (u : List Token) (x b y : List Item) (p q : ℕ) : Type 0 where
   read-behind : Reads behind start depth y start 0
 
 -- depths that are equal
-at-depths : {u : List Token} {m n : Mode} {d e f g : ℕ} {i : List Item} → d ≡ f → e ≡ g → Reads u m d i n e → Reads u m f i n g
+at-depths : {u : List Token} {m n : Mode} {d e f g : ℕ} {i : List Item} → d ≡ f → e ≡ g → Reads u m d i n e
+    → Reads u m f i n g
 at-depths a b r = rw (← a, ← b) r
 
-braces : {u : List Token} {i : List Item} {p q : ℕ} → Reads u start 0 i start 0 → (o : Owned i p q) → Braces u (o .front) (o .body) (o .back) p q
+braces : {u : List Token} {i : List Item} {p q : ℕ} → Reads u start 0 i start 0 → (o : Owned i p q)
+    → Braces u (o .front) (o .body) (o .back) p q
 braces {u} {i} {p} {q} r o =
     let c = reads-cut (o .front) (opens p) (o .body ++ (closes q ∷ o .back)) tt r (o .items) in
     let a = brace-opened (c .brace) (c .above) (c .below) p (c .here) in
@@ -106,7 +108,8 @@ record Places (l u1 : List Token) (tp : Token) (u2 : List Token) (tq : Token) (u
   shown-behind : visible behind outside ≡ u3
   out-behind : after l outside ≡ after behind outside
 
-places : (l u1 : List Token) (tp : Token) (u2 : List Token) (tq : Token) (u3 : List Token) → visible l outside ≡ u1 ++ (tp ∷ (u2 ++ (tq ∷ u3))) → Places l u1 tp u2 tq u3
+places : (l u1 : List Token) (tp : Token) (u2 : List Token) (tq : Token) (u3 : List Token)
+    → visible l outside ≡ u1 ++ (tp ∷ (u2 ++ (tq ∷ u3))) → Places l u1 tp u2 tq u3
 places l u1 tp u2 tq u3 e =
     let s = shown-cut l outside u1 tp (u2 ++ (tq ∷ u3)) e in
     let v = shown-cut (s .behind) outside u2 tq u3 (s .right) in
@@ -129,7 +132,8 @@ record Bytes (t : List ℕ) (x y z : List Token) (p q : ℕ) : Type 0 where
   toks-body : toks (parts .body) (p + 2) ≡ y
   toks-back : toks (parts .back) (q + 2) ≡ z
 
-bytes-of : (t : List ℕ) (x y z : List Token) (tp tq : Token) (p q : ℕ) → toks t 0 ≡ x ++ (tp ∷ (y ++ (tq ∷ z))) → tp .bytes ≡ 36 ∷ 123 ∷ [] → tp .at ≡ p → tq .bytes ≡ 36 ∷ 125 ∷ [] → tq .at ≡ q → Bytes t x y z p q
+bytes-of : (t : List ℕ) (x y z : List Token) (tp tq : Token) (p q : ℕ) → toks t 0 ≡ x ++ (tp ∷ (y ++ (tq ∷ z)))
+    → tp .bytes ≡ 36 ∷ 123 ∷ [] → tp .at ≡ p → tq .bytes ≡ 36 ∷ 125 ∷ [] → tq .at ≡ q → Bytes t x y z p q
 bytes-of t x y z tp tq p q e a b c d =
     let k = cut t 0 x tp (y ++ (tq ∷ z)) e in
     let v = cut (k .behind) _ y tq z (k .right) in
@@ -184,7 +188,8 @@ pub record Split (t : List ℕ) (p q : ℕ) (i : List Item) : Type 0 where
   pub blanked-read : (n : ℕ) → items (tokens (blanked t p q)) n ≡ given (front ++ back)
 
 -- where the visible tokens of some bytes stand
-pub shown-at : (l : List ℕ) (o : ℕ) {x u : List Token} (P : ℕ → Type 0) → ((n : ℕ) → o ≤ n → n < o + length l → P n) → toks l o ≡ x → visible x outside ≡ u → All (TokenAt P) u
+pub shown-at : (l : List ℕ) (o : ℕ) {x u : List Token} (P : ℕ → Type 0) → ((n : ℕ) → o ≤ n → n < o + length l → P n)
+    → toks l o ≡ x → visible x outside ≡ u → All (TokenAt P) u
 shown-at l o P f a b =
     rw (← b, ← a) (visible-all outside (all-map (λ t h. f (t .at) (h .0) (h .1)) (toks-within l o)))
 
@@ -192,14 +197,17 @@ fewer-tokens : (x m z : List Token) (tp tq : Token) → length (x ++ z) ≤ leng
 fewer-tokens x m z tp tq =
     omega (arith, length-append x z, length-append x (tp ∷ (m ++ (tq ∷ z))), length-append m (tq ∷ z))
 
-joined : (x z : List Token) {u1 u3 : List Token} {i j : List Item} {d : ℕ} → visible x outside ≡ u1 → after x outside ≡ outside → visible z outside ≡ u3 → after z outside ≡ outside → Reads u1 start 0 i start d → Reads u3 start d j start 0 → Read (x ++ z) (i ++ j)
+joined : (x z : List Token) {u1 u3 : List Token} {i j : List Item} {d : ℕ} → visible x outside ≡ u1
+    → after x outside ≡ outside → visible z outside ≡ u3 → after z outside ≡ outside → Reads u1 start 0 i start d
+    → Reads u3 start d j start 0 → Read (x ++ z) (i ++ j)
 joined x z a b c d r s =
     record {
       all = rw (visible-append x z outside, b, a, c) (reads-many (reads-append r s) []);
       out = after-append x z outside ∙ rw b d;
     }
 
-split-by : (t : List ℕ) (p q : ℕ) (i : List Item) (o : Owned i p q) (b : Braces (visible (tokens t) outside) (o .front) (o .body) (o .back) p q) (l : Places (tokens t) (b .before) (b .left-brace) (b .middle) (b .right-brace) (b .behind)) → Bytes t (l .before) (l .middle) (l .behind) p q → after (tokens t) outside ≡ outside → Split t p q i
+split-by : (t : List ℕ) (p q : ℕ) (i : List Item) (o : Owned i p q) (b : Braces (visible (tokens t) outside) (o .front) (o .body) (o .back) p q) (l : Places (tokens t) (b .before) (b .left-brace) (b .middle) (b .right-brace) (b .behind))
+    → Bytes t (l .before) (l .middle) (l .behind) p q → after (tokens t) outside ≡ outside → Split t p q i
 split-by t p q i o b l y out =
     let k = y .parts in
     let z : tokens (blanked t p q) ≡ l .before ++ l .behind = blanked-tokens y in
@@ -240,7 +248,8 @@ key-bytes : (k : ℕ) (t : Token) → key k t ≡ true → t .bytes ≡ 36 ∷ k
 unfolding key
 key-bytes k t e = same-eq (t .bytes) (36 ∷ k ∷ []) e
 
-pub split-group : (t : List ℕ) (p q : ℕ) (i : List Item) → items (tokens t) (length t) ≡ given i → closer i p ≡ some q → Split t p q i
+pub split-group : (t : List ℕ) (p q : ℕ) (i : List Item) → items (tokens t) (length t) ≡ given i → closer i p ≡ some q
+    → Split t p q i
 unfolding tokens
 split-group t p q i e c =
     let h = items-read (tokens t) (length t) i e in
@@ -269,7 +278,8 @@ module _ (f : List Item) (p : ℕ) (b : List Item) (q : ℕ) (c : List Item) (n 
       ends-append f (opens p ∷ (b ++ (closes q ∷ c))) []
       ∙ rw (closers-append b (closes q ∷ c) [], n, ends-append b (closes q ∷ c) [])
 
-pub three : {t : List ℕ} {p q : ℕ} {i : List Item} (x : Split t p q i) → Three (ends i []) (ends (x .front ++ x .back) []) p q
+pub three : {t : List ℕ} {p q : ℕ} {i : List Item} (x : Split t p q i)
+    → Three (ends i []) (ends (x .front ++ x .back) []) p q
 three {p = p} {q = q} x =
     let low = all-map (λ y h. h .1) (x .body-at) in
     let l = closers (x .back) [] in

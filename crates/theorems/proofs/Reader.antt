@@ -1,21 +1,21 @@
 -- The reader: what a run over some tokens reads, as a relation that can be cut and joined; its depth, and where its items stand.
 -- The lemmas R1 to R7 of the proof on paper.
 use mathlib.Core.Path.{_≡_, refl, sym, ap, _∙_}
-use mathlib.Core.Bool.{Bool, true, false}
+use mathlib.Core.Bool.{true}
 use mathlib.Core.List.{List, [], _∷_, _++_, append-assoc, append-nil, nil≢cons}
 use mathlib.Core.Option.{Option, none, some}
 use Prim.Native.Nat.{ℕ, zero, suc, _+_, _≤_}
-use native.Mathlib.Nat.{suc-add}
 use native.Mathlib.Omega.{arith}
 use lib.Dec.{leb}
 use lib.ListN.{length}
-use Rattle.paper.specs.Base.{choose, and}
+use Rattle.paper.specs.Base.{and}
 use Rattle.paper.specs.Tokens.{Token, label-token, math-token, key}
 use Rattle.paper.specs.Statements.{Kind, $c, $v, $d, $f, $e, $a, $p, Statement, Item, opens, closes, states}
 use Rattle.paper.specs.Reader.{Mode, start, named, math, proof, plain-kind, label-kind, room, least, closing, Step, go, stop, shut, begin, keyword, closed, allow, with-items, many}
 use Rattle.paper.proofs.Tests.{split}
 use Rattle.paper.proofs.Sums.{total, total-append}
-use Rattle.paper.proofs.All.{All, nil, cons, all-append, not-nil}
+use Rattle.paper.proofs.Alls.{All, all-none, all-more, all-append}
+use Rattle.paper.proofs.Searches.{not-nil}
 
 -- ---- what one allowed token does
 -- the offset of the statement in hand, or z where there is none
@@ -43,10 +43,12 @@ statement-weight s = suc (length (s .label) + weight (s .math))
 
 -- nothing yet; a `${`; a `$}`; the end of a statement
 pub data Gives (m : Mode) (d : ℕ) (t : Token) : Mode → ℕ → List Item → Type 0 where
-  quiet : {n : Mode} → mode-at n (t .at) ≡ mode-at m (t .at) → mode-weight n ≤ mode-weight m + suc (length (t .bytes)) → Gives m d t n d []
+  quiet : {n : Mode} → mode-at n (t .at) ≡ mode-at m (t .at) → mode-weight n ≤ mode-weight m + suc (length (t .bytes))
+      → Gives m d t n d []
   opening : m ≡ start → key 123 t ≡ true → Gives m d t start (suc d) (opens (t .at) ∷ [])
   closing-one : {e : ℕ} → m ≡ start → key 125 t ≡ true → d ≡ suc e → Gives m d t start e (closes (t .at) ∷ [])
-  stating : {s : Statement} → s .at ≡ mode-at m (t .at) → statement-weight s ≤ mode-weight m + suc (length (t .bytes)) → Gives m d t start d (states s ∷ [])
+  stating : {s : Statement} → s .at ≡ mode-at m (t .at) → statement-weight s ≤ mode-weight m + suc (length (t .bytes))
+      → Gives m d t start d (states s ∷ [])
 
 module _ {m : Mode} {d : ℕ} {t : Token} {n : Mode} {e : ℕ} {j : List Item} where
   same : {a : Mode} {b : ℕ} {c : List Item} → Gives m d t a b c → go a b c ≡ go n e j → Gives m d t n e j
@@ -77,7 +79,8 @@ module _ {t : Token} {n : Mode} {e : ℕ} {j : List Item} where
   keyword-gives (some k) d s h = same (quiet {n = math k (s .at) (s .bytes) []} refl (omega arith)) h
   keyword-gives none d s h = never h
 
-  closed-gives : (k : Kind) (d o : ℕ) (l : List ℕ) (m : List Token) → closed k d o l m ≡ go n e j → Gives (math k o l m) d t n e j
+  closed-gives : (k : Kind) (d o : ℕ) (l : List ℕ) (m : List Token) → closed k d o l m ≡ go n e j
+      → Gives (math k o l m) d t n e j
   closed-gives $c d o l m h = same (stating refl (omega arith)) h
   closed-gives $v d o l m h = same (stating refl (omega arith)) h
   closed-gives $d d o l m h = same (stating refl (omega arith)) h
@@ -111,9 +114,11 @@ module _ {t : Token} {n : Mode} {e : ℕ} {j : List Item} where
 -- ---- R1: a run over tokens from a mode and depth, with the items that it adds
 pub data Reads : List Token → Mode → ℕ → List Item → Mode → ℕ → Type 0 where
   done : {m : Mode} {d : ℕ} → Reads [] m d [] m d
-  step : {t : Token} {u : List Token} {m n o : Mode} {d e f : ℕ} {j i : List Item} → allow m d t ≡ go n e j → Reads u n e i o f → Reads (t ∷ u) m d (j ++ i) o f
+  step : {t : Token} {u : List Token} {m n o : Mode} {d e f : ℕ} {j i : List Item} → allow m d t ≡ go n e j
+      → Reads u n e i o f → Reads (t ∷ u) m d (j ++ i) o f
 
-by-step : {P : Type 0} (z : Step) → ((m : Mode) (d : ℕ) (j : List Item) → z ≡ go m d j → P) → ((o : ℕ) → z ≡ stop o → P) → P
+by-step : {P : Type 0} (z : Step) → ((m : Mode) (d : ℕ) (j : List Item) → z ≡ go m d j → P)
+    → ((o : ℕ) → z ≡ stop o → P) → P
 by-step (go m d j) f g = f m d j refl
 by-step (stop o) f g = g o refl
 
@@ -133,7 +138,8 @@ pub record Run (u : List Token) (m : Mode) (d : ℕ) (s k : List Item) (n : Mode
   pub sum : k ≡ s ++ added
   pub reads : Reads u m d added n e
 
-pub many-reads : (u : List Token) (m : Mode) (d : ℕ) (s : List Item) (n : Mode) (e : ℕ) (k : List Item) → many u (go m d s) ≡ go n e k → Run u m d s k n e
+pub many-reads : (u : List Token) (m : Mode) (d : ℕ) (s : List Item) (n : Mode) (e : ℕ) (k : List Item)
+    → many u (go m d s) ≡ go n e k → Run u m d s k n e
 unfolding many
 many-reads [] m d s n e k h =
     let a : m ≡ n = cc in
@@ -150,13 +156,15 @@ many-reads (t ∷ u) m d s n e k h =
     let y : _≡_ {A = ℕ} 0 1 = cc in
     absurd (omega arith))
 
-pub reads-many : {u : List Token} {m n : Mode} {d e : ℕ} {i : List Item} → Reads u m d i n e → (s : List Item) → many u (go m d s) ≡ go n e (s ++ i)
+pub reads-many : {u : List Token} {m n : Mode} {d e : ℕ} {i : List Item} → Reads u m d i n e → (s : List Item)
+    → many u (go m d s) ≡ go n e (s ++ i)
 unfolding many
 reads-many done s = rw append-nil
 reads-many (step {n = n} {d = d} {e = e} {j = j} {i = i} h r) s =
     rw h (reads-many r (s ++ j) ∙ rw (append-assoc s j i))
 
-pub reads-append : {u v : List Token} {m n o : Mode} {d e f : ℕ} {i j : List Item} → Reads u m d i n e → Reads v n e j o f → Reads (u ++ v) m d (i ++ j) o f
+pub reads-append : {u v : List Token} {m n o : Mode} {d e f : ℕ} {i j : List Item} → Reads u m d i n e
+    → Reads v n e j o f → Reads (u ++ v) m d (i ++ j) o f
 reads-append done b = b
 reads-append {j = k} (step {j = j} {i = i} h r) b = rw (append-assoc j i k) (step h (reads-append r b))
 
@@ -167,7 +175,8 @@ pub data Level : List Item → ℕ → ℕ → Type 0 where
   shut-one : {q d e : ℕ} {i : List Item} → Level i d e → Level (closes q ∷ i) (suc d) e
   stated : {s : Statement} {d e : ℕ} {i : List Item} → Level i d e → Level (states s ∷ i) d e
 
-level-step : {m n : Mode} {d e f : ℕ} {t : Token} {j i : List Item} → Gives m d t n e j → Level i e f → Level (j ++ i) d f
+level-step : {m n : Mode} {d e f : ℕ} {t : Token} {j i : List Item} → Gives m d t n e j → Level i e f
+    → Level (j ++ i) d f
 level-step (quiet a b) l = l
 level-step (opening a b) l = opened l
 level-step (closing-one a b c) l = rw c (shut-one l)
@@ -207,21 +216,24 @@ module _ (P : ℕ → Type 0) where
   hand (math k o l m) y z a b = a
   hand (proof o l m p) y z a b = a
 
-  hand-step : {m n : Mode} {d e : ℕ} {t : Token} {j : List Item} → Gives m d t n e j → P (t .at) → InHand P m → InHand P n
+  hand-step : {m n : Mode} {d e : ℕ} {t : Token} {j : List Item} → Gives m d t n e j → P (t .at) → InHand P m
+      → InHand P n
   hand-step {n = n} {t = t} (quiet a b) h k = λ z p. hand n (t .at) z (rw a (k (t .at) h)) p
   hand-step (opening a b) h k = λ z p. p
   hand-step (closing-one a b c) h k = λ z p. p
   hand-step (stating a b) h k = λ z p. p
 
-  items-step : {m n : Mode} {d e : ℕ} {t : Token} {j : List Item} → Gives m d t n e j → P (t .at) → InHand P m → All (ItemAt P) j
-  items-step (quiet a b) h k = nil
-  items-step {t = t} (opening a b) h k = cons {x = opens (t .at)} h nil
-  items-step {t = t} (closing-one a b c) h k = cons {x = closes (t .at)} h nil
-  items-step {t = t} (stating {s = s} a b) h k = cons {x = states s} (rw a (k (t .at) h)) nil
+  items-step : {m n : Mode} {d e : ℕ} {t : Token} {j : List Item} → Gives m d t n e j → P (t .at) → InHand P m
+      → All (ItemAt P) j
+  items-step (quiet a b) h k = all-none
+  items-step {t = t} (opening a b) h k = all-more {x = opens (t .at)} h all-none
+  items-step {t = t} (closing-one a b c) h k = all-more {x = closes (t .at)} h all-none
+  items-step {t = t} (stating {s = s} a b) h k = all-more {x = states s} (rw a (k (t .at) h)) all-none
 
-  pub reads-at : {u : List Token} {m n : Mode} {d e : ℕ} {i : List Item} → Reads u m d i n e → All (TokenAt P) u → InHand P m → All (ItemAt P) i
-  reads-at done a k = nil
-  reads-at (step {m = m} {d = d} h r) (cons p a) k =
+  pub reads-at : {u : List Token} {m n : Mode} {d e : ℕ} {i : List Item} → Reads u m d i n e → All (TokenAt P) u
+      → InHand P m → All (ItemAt P) i
+  reads-at done a k = all-none
+  reads-at (step {m = m} {d = d} h r) (all-more p a) k =
       let g = allow-gives m d h in
       all-append (items-step g p k) (reads-at r a (hand-step g p k))
 
@@ -234,14 +246,16 @@ item-weight (states s) = statement-weight s
 abbrev pub items-weight : List Item → ℕ
 items-weight i = total item-weight i
 
-weight-step : {m n : Mode} {d e : ℕ} {t : Token} {j : List Item} → Gives m d t n e j → items-weight j + mode-weight n ≤ mode-weight m + suc (length (t .bytes))
+weight-step : {m n : Mode} {d e : ℕ} {t : Token} {j : List Item} → Gives m d t n e j
+    → items-weight j + mode-weight n ≤ mode-weight m + suc (length (t .bytes))
 unfolding total
 weight-step (quiet a b) = omega arith
 weight-step (opening a b) = omega arith
 weight-step (closing-one a b c) = omega arith
 weight-step (stating a b) = omega arith
 
-pub reads-weight : {u : List Token} {m n : Mode} {d e : ℕ} {i : List Item} → Reads u m d i n e → items-weight i + mode-weight n ≤ mode-weight m + weight u
+pub reads-weight : {u : List Token} {m n : Mode} {d e : ℕ} {i : List Item} → Reads u m d i n e
+    → items-weight i + mode-weight n ≤ mode-weight m + weight u
 unfolding total
 reads-weight done = omega arith
 reads-weight (step {m = m} {d = d} {j = j} {i = i} h r) =
@@ -279,7 +293,8 @@ module _ {t : Token} {u : List Token} {m n o : Mode} {d e f : ℕ} {j : List Ite
         right = c .right;
       }
 
-  at-brace : {i : List Item} → m ≡ start → n ≡ start → Reads u n e i o f → j ≡ z ∷ [] → i ≡ y → Cut (t ∷ u) m d [] z y o f
+  at-brace : {i : List Item} → m ≡ start → n ≡ start → Reads u n e i o f → j ≡ z ∷ [] → i ≡ y
+      → Cut (t ∷ u) m d [] z y o f
   at-brace a b r k l =
       record {
         before = [];
@@ -294,7 +309,9 @@ module _ {t : Token} {u : List Token} {m n o : Mode} {d e f : ℕ} {j : List Ite
       }
 
 -- by what the token does
-cut-by : {t : Token} {u : List Token} {m n o : Mode} {d e f : ℕ} {j i : List Item} (x : List Item) (z : Item) (y : List Item) → Brace z → Gives m d t n e j → allow m d t ≡ go n e j → Reads u n e i o f → ((v : List Item) → i ≡ v ++ (z ∷ y) → Cut u n e v z y o f) → j ++ i ≡ x ++ (z ∷ y) → Cut (t ∷ u) m d x z y o f
+cut-by : {t : Token} {u : List Token} {m n o : Mode} {d e f : ℕ} {j i : List Item} (x : List Item) (z : Item) (y : List Item)
+    → Brace z → Gives m d t n e j → allow m d t ≡ go n e j → Reads u n e i o f
+    → ((v : List Item) → i ≡ v ++ (z ∷ y) → Cut u n e v z y o f) → j ++ i ≡ x ++ (z ∷ y) → Cut (t ∷ u) m d x z y o f
 cut-by x z y b (quiet p w) h r f q = extend h (f x q)
 cut-by [] z y b (opening p w) h r f q = at-brace h p refl r (cc) (cc)
 cut-by {t} {i = i} (x ∷ v) z y b (opening p w) h r f q =
@@ -314,7 +331,8 @@ cut-by {i = i} (x ∷ v) z y b (stating {s = s} p w) h r f q =
     let c : i ≡ v ++ (z ∷ y) = cc in
     rw (← a) (extend h (f v c))
 
-pub reads-cut : {u : List Token} {m n : Mode} {d e : ℕ} {i : List Item} (x : List Item) (z : Item) (y : List Item) → Brace z → Reads u m d i n e → i ≡ x ++ (z ∷ y) → Cut u m d x z y n e
+pub reads-cut : {u : List Token} {m n : Mode} {d e : ℕ} {i : List Item} (x : List Item) (z : Item) (y : List Item)
+    → Brace z → Reads u m d i n e → i ≡ x ++ (z ∷ y) → Cut u m d x z y n e
 reads-cut x z y b done q = absurd (not-nil x z y q)
 reads-cut x z y b (step {m = m} {d = d} h r) q =
     cut-by x z y b (allow-gives m d h) h r (λ v k. reads-cut v z y b r k) q
@@ -330,13 +348,15 @@ pub record Closed (t : Token) (a b q : ℕ) : Type 0 where
   pub stands : t .at ≡ q
   pub deeper : a ≡ suc b
 
-opened-by : {t : Token} {n : Mode} {a b p : ℕ} {j : List Item} → Gives start a t n b j → j ≡ opens p ∷ [] → Opened t a b p
+opened-by : {t : Token} {n : Mode} {a b p : ℕ} {j : List Item} → Gives start a t n b j → j ≡ opens p ∷ []
+    → Opened t a b p
 opened-by (quiet x y) e = absurd (nil≢cons e)
 opened-by (opening x y) e = record { key-is = y; stands = cc; deeper = refl }
 opened-by (closing-one x y z) e = let c : _≡_ {A = ℕ} 0 1 = cc in absurd (omega arith)
 opened-by (stating x y) e = let c : _≡_ {A = ℕ} 0 1 = cc in absurd (omega arith)
 
-closed-by : {t : Token} {n : Mode} {a b q : ℕ} {j : List Item} → Gives start a t n b j → j ≡ closes q ∷ [] → Closed t a b q
+closed-by : {t : Token} {n : Mode} {a b q : ℕ} {j : List Item} → Gives start a t n b j → j ≡ closes q ∷ []
+    → Closed t a b q
 closed-by (quiet x y) e = absurd (nil≢cons e)
 closed-by (opening x y) e = let c : _≡_ {A = ℕ} 0 1 = cc in absurd (omega arith)
 closed-by (closing-one x y z) e = record { key-is = y; stands = cc; deeper = z }

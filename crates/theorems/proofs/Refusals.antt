@@ -1,29 +1,29 @@
 -- Refusals: what a text that is answered with number 0 has passed, and that it suffices.
 -- For the lemma S3 of the proof on paper.
-use mathlib.Core.Path.{_≡_, refl, sym, ap, _∙_}
-use mathlib.Core.Bool.{Bool, true, false}
-use mathlib.Core.List.{List, [], _∷_, _++_}
-use mathlib.Core.Option.{Option, none, some}
-use Prim.Native.Nat.{ℕ, zero, suc, _+_, _<_, _≤_}
+use mathlib.Core.Path.{_≡_, refl}
+use mathlib.Core.Bool.{true, false}
+use mathlib.Core.List.{List, [], _∷_}
+use mathlib.Core.Option.{none, some}
+use Prim.Native.Nat.{ℕ, zero, suc, _≤_}
 use native.Mathlib.Omega.{arith}
 use lib.Dec.{ltb}
 use lib.ListN.{length, replicate}
 use borrow.Author.Tests.{le-ltb, ltb-false}
-use Rattle.paper.specs.Base.{choose, or, find}
+use Rattle.paper.specs.Base.{or, find}
 use Rattle.paper.specs.Bytes.{white, printable}
 use Rattle.paper.specs.Tokens.{tokens, bad-from}
 use Rattle.paper.specs.Statements.{Statement, Item, ends}
-use Rattle.paper.specs.Reader.{Outcome, refused, given, items, with-ends, printed, words, reading}
-use Rattle.paper.specs.Frames.{Frame}
+use Rattle.paper.specs.Reader.{Outcome, refused, given, items, with-ends, words, reading}
 use Rattle.paper.specs.Give.{Given, all-given}
-use Rattle.paper.specs.Answer.{refusal-number, number, crowded, frame-at, frames-in, Streams, fitting, streams, numbered, written, written-of, outcome, answer-of, answer}
+use Rattle.paper.specs.Answer.{refusal-number, number, crowded, frame-at, frames-in, Streams, fitting, streams, written, outcome, answer}
 use Rattle.paper.specs.declared.Refusal.{Refusal}
 use Rattle.paper.specs.declared.Refusal.the-variants.{LongText, ShortWork, BadByte, OpenComment, BadToken, OpenText, ManyVariables, ShortFrames, ShortDiags}
 use Rattle.paper.proofs.Tests.{split, by-option, clash}
-use Rattle.paper.proofs.All.{All, nil, cons}
+use Rattle.paper.proofs.Alls.{All, all-none, all-more}
 
 -- ---- an outcome is a refusal or given
-pub by-outcome : {A P : Type 0} (o : Outcome A) → ((r : Refusal) → o ≡ refused r → P) → ((a : A) → o ≡ given a → P) → P
+pub by-outcome : {A P : Type 0} (o : Outcome A) → ((r : Refusal) → o ≡ refused r → P) → ((a : A) → o ≡ given a → P)
+    → P
 by-outcome (refused r) f g = f r refl
 by-outcome (given a) f g = g a refl
 
@@ -36,21 +36,21 @@ Good b = or (white b) (printable b) ≡ true
 
 pub clean-good : (l : List ℕ) (o : ℕ) → bad-from l o ≡ none → All Good l
 unfolding bad-from
-clean-good [] o e = nil
+clean-good [] o e = all-none
 clean-good (b ∷ l) o e =
     split (or (white b) (printable b))
-    (λ h. cons h (clean-good l (suc o) (rw h at e)))
+    (λ h. all-more h (clean-good l (suc o) (rw h at e)))
     (λ h. let z : some o ≡ none = rw h at e in let y : true ≡ false = cc in absurd (clash y))
 
 pub good-clean : {l : List ℕ} → All Good l → (o : ℕ) → bad-from l o ≡ none
 unfolding bad-from
-good-clean nil o = refl
-good-clean (cons h a) o = rw h (good-clean a (suc o))
+good-clean all-none o = refl
+good-clean (all-more h a) o = rw h (good-clean a (suc o))
 
 pub blanks-good : (n : ℕ) → All Good (replicate n 32)
 unfolding white printable
-blanks-good zero = nil
-blanks-good (suc n) = cons refl (blanks-good n)
+blanks-good zero = all-none
+blanks-good (suc n) = all-more refl (blanks-good n)
 
 -- ---- numbers 1 to 6
 pub record Passed (t : List ℕ) (w : ℕ) (l : List Statement) : Type 0 where
@@ -61,7 +61,8 @@ pub record Passed (t : List ℕ) (w : ℕ) (l : List Statement) : Type 0 where
   pub reads : items (tokens t) (length t) ≡ given read
   pub statements : l ≡ ends read []
 
-ended-given : (o : Outcome (List Item)) {l : List Statement} → with-ends o ≡ given l → (i : List Item) × (o ≡ given i) × (l ≡ ends i [])
+ended-given : (o : Outcome (List Item)) {l : List Statement} → with-ends o ≡ given l
+    → (i : List Item) × (o ≡ given i) × (l ≡ ends i [])
 ended-given (refused r) e = not-given e
 ended-given (given i) {l} e = (i, refl, cc)
 
@@ -96,7 +97,8 @@ pub record Fits (l : List Given) (f d : ℕ) : Type 0 where
   pub frames-fit : length (streams l .frames) ≤ f
   pub diags-fit : length (streams l .diags) ≤ d
 
-fitted : (l : List Given) (f d : ℕ) (s : Streams) → fitting (streams l) f d ≡ given s → (length (streams l .frames) ≤ f) × (length (streams l .diags) ≤ d) × (streams l ≡ s)
+fitted : (l : List Given) (f d : ℕ) (s : Streams) → fitting (streams l) f d ≡ given s
+    → (length (streams l .frames) ≤ f) × (length (streams l .diags) ≤ d) × (streams l ≡ s)
 fitted l f d s e =
     split (ltb f (length (streams l .frames)))
     (λ a. not-given {A = Streams} {r = ShortFrames (length (streams l .frames))} {a = s} (rw a at e))
@@ -136,7 +138,8 @@ answered t w f d s e =
     let k = fits (all-given l) f d s (rw a at e) in
     record { statements = l; passes = a; fit = k .0; are = k .1 })
 
-pub answering : (t : List ℕ) (w f d : ℕ) (l : List Statement) → reading t w ≡ given l → Fits (all-given l) f d → outcome t w f d ≡ given (streams (all-given l))
+pub answering : (t : List ℕ) (w f d : ℕ) (l : List Statement) → reading t w ≡ given l → Fits (all-given l) f d
+    → outcome t w f d ≡ given (streams (all-given l))
 unfolding outcome
 answering t w f d l e h = rw e (fitting-fits (all-given l) f d h)
 

@@ -1,26 +1,28 @@
 -- Tokens under blanking: the bytes of a text cut at one of its tokens, and bytes with white space in their middle.
 -- The lemmas T1 to T7 of the proof on paper, the first three by one induction.
 use mathlib.Core.Path.{_≡_, refl, sym, ap, _∙_}
-use mathlib.Core.Bool.{Bool, true, false}
+use mathlib.Core.Bool.{true}
 use mathlib.Core.List.{List, [], _∷_, _++_}
-use Prim.Native.Nat.{ℕ, zero, suc, _+_, _-_, _<_, _≤_}
+use Prim.Native.Nat.{ℕ, zero, suc, _+_, _<_, _≤_}
 use native.Mathlib.Nat.{add-zero, add-suc, suc-add}
 use native.Mathlib.Omega.{arith}
-use lib.ListN.{length, take, drop, replicate, length-append, length-replicate}
+use lib.ListN.{length, take, drop, replicate, length-replicate}
 use lib.Seq.{take-at, drop-append-add}
 use Rattle.paper.specs.Bytes.{white}
 use Rattle.paper.specs.Answer.{laid}
-use Rattle.paper.specs.Tokens.{Token, Run, put, prefix, run, toks}
+use Rattle.paper.specs.Tokens.{Token, put, run, toks}
 use Rattle.paper.proofs.Tests.{split}
-use Rattle.theorems.specs.Groups.{blanked}
-use Rattle.paper.proofs.All.{All, nil, cons, all-map, not-nil}
+use Rattle.theorems.specs.Groups.{span, blanked}
+use Rattle.paper.proofs.Alls.{All, all-none, all-more, all-map}
+use Rattle.paper.proofs.Searches.{not-nil}
 
 -- ---- T1, T2: cut at white space
 put-append : (o : ℕ) (h : List ℕ) (x y : List Token) → put o h (x ++ y) ≡ put o h x ++ y
 put-append o [] x y = refl
 put-append o (b ∷ h) x y = refl
 
-pub run-white : (a : List ℕ) (c : ℕ) (b : List ℕ) (o : ℕ) → white c ≡ true → run (a ++ (c ∷ b)) o ≡ record { head = run a o .head; rest = run a o .rest ++ toks b (suc (o + length a)) }
+pub run-white : (a : List ℕ) (c : ℕ) (b : List ℕ) (o : ℕ) → white c ≡ true
+    → run (a ++ (c ∷ b)) o ≡ record { head = run a o .head; rest = run a o .rest ++ toks b (suc (o + length a)) }
 unfolding run toks
 run-white [] c b o e = rw (e, add-zero)
 run-white (x ∷ a) c b o e =
@@ -29,7 +31,8 @@ run-white (x ∷ a) c b o e =
     (λ w. rw (w, put-append (suc o) (run a (suc o) .head) (run a (suc o) .rest) (toks b (suc (suc (o + length a))))))
     (λ w. rw w))
 
-pub toks-white : (a : List ℕ) (c : ℕ) (b : List ℕ) (o : ℕ) → white c ≡ true → toks (a ++ (c ∷ b)) o ≡ toks a o ++ toks b (suc (o + length a))
+pub toks-white : (a : List ℕ) (c : ℕ) (b : List ℕ) (o : ℕ) → white c ≡ true
+    → toks (a ++ (c ∷ b)) o ≡ toks a o ++ toks b (suc (o + length a))
 unfolding toks
 toks-white a c b o e = rw (run-white a c b o e) (put-append o (run a o .head) (run a o .rest) (toks b (suc (o + length a))))
 
@@ -84,7 +87,8 @@ record Later (l : List ℕ) (o : ℕ) (x : List Token) (t : Token) (z : List Tok
   left : run before o .rest ≡ x
   right : toks behind ((o + length before) + length (t .bytes)) ≡ z
 
-later-cut : {l : List ℕ} {o : ℕ} {x : List Token} {t : Token} {z : List Token} → Later l o x t z → Cut l o (put o (run l o .head) x) t z
+later-cut : {l : List ℕ} {o : ℕ} {x : List Token} {t : Token} {z : List Token} → Later l o x t z
+    → Cut l o (put o (run l o .head) x) t z
 unfolding toks
 later-cut c =
     record {
@@ -97,7 +101,9 @@ later-cut c =
     }
 
 -- by the run at the front: none, or the first token
-cut-by : (l : List ℕ) (o : ℕ) (h : List ℕ) (x : List Token) (t : Token) (z : List Token) → run l o .head ≡ h → ((y : List Token) → run l o .rest ≡ y ++ (t ∷ z) → Later l o y t z) → put o h (run l o .rest) ≡ x ++ (t ∷ z) → Cut l o x t z
+cut-by : (l : List ℕ) (o : ℕ) (h : List ℕ) (x : List Token) (t : Token) (z : List Token) → run l o .head ≡ h
+    → ((y : List Token) → run l o .rest ≡ y ++ (t ∷ z) → Later l o y t z) → put o h (run l o .rest) ≡ x ++ (t ∷ z)
+    → Cut l o x t z
 unfolding run toks
 cut-by l o [] x t z e f g = let c = later-cut (f x g) in rw e at c
 cut-by l o (b ∷ h) [] t z e f g =
@@ -119,7 +125,8 @@ cut-by l o (b ∷ h) (y ∷ x) t z e f g =
     let c = later-cut (f x v) in
     rw (e, u) at c
 
-cut-later : (l : List ℕ) (o : ℕ) (x : List Token) (t : Token) (z : List Token) → run l o .rest ≡ x ++ (t ∷ z) → Later l o x t z
+cut-later : (l : List ℕ) (o : ℕ) (x : List Token) (t : Token) (z : List Token) → run l o .rest ≡ x ++ (t ∷ z)
+    → Later l o x t z
 unfolding run toks
 cut-later [] o x t z g = absurd (not-nil x t z g)
 cut-later (b ∷ l) o x t z g =
@@ -164,14 +171,15 @@ record RunWithin (l : List ℕ) (o : ℕ) : Type 0 where
 wider : {lo hi lo′ hi′ : ℕ} {l : List Token} → lo′ ≤ lo → hi ≤ hi′ → All (Within lo hi) l → All (Within lo′ hi′) l
 wider a b h = all-map (λ t k. (omega arith, omega arith)) h
 
-put-within : (o n : ℕ) (h : List ℕ) (l : List Token) → length h ≤ n → All (Within (suc o) (o + n)) l → All (Within o (o + n)) (put o h l)
+put-within : (o n : ℕ) (h : List ℕ) (l : List Token) → length h ≤ n → All (Within (suc o) (o + n)) l
+    → All (Within o (o + n)) (put o h l)
 put-within o n [] l a b = wider (omega arith) (omega arith) b
 put-within o n (x ∷ h) l a b =
-    cons {x = record { at = o; bytes = x ∷ h }} (omega arith, omega arith) (wider (omega arith) (omega arith) b)
+    all-more {x = record { at = o; bytes = x ∷ h }} (omega arith, omega arith) (wider (omega arith) (omega arith) b)
 
 run-within : (l : List ℕ) (o : ℕ) → RunWithin l o
 unfolding run
-run-within [] o = record { short = omega arith; later = nil }
+run-within [] o = record { short = omega arith; later = all-none }
 run-within (b ∷ l) o =
     let r = run-within l (suc o) in
     split (white b)
@@ -200,10 +208,11 @@ pub record Parts (t : List ℕ) (p q : ℕ) : Type 0 where
   pub from : p ≡ length front
   pub to : q ≡ (p + 2) + length body
 
-pub blanked-parts : {t : List ℕ} {p q : ℕ} (x : Parts t p q) → blanked t p q ≡ x .front ++ (replicate (4 + length (x .body)) 32 ++ x .back)
+pub blanked-parts : {t : List ℕ} {p q : ℕ} (x : Parts t p q)
+    → blanked t p q ≡ x .front ++ (replicate (4 + length (x .body)) 32 ++ x .back)
 unfolding blanked laid
 blanked-parts {t} {p} {q} x =
-    let n : (q + 2) - p ≡ 4 + length (x .body) = omega (arith, x .to) in
+    let n : span p q ≡ 4 + length (x .body) = omega (arith, x .to) in
     let i : p + (4 + length (x .body)) ≡ length (x .front) + suc (suc (length (x .body) + 2)) = omega (arith, x .from) in
     let a : take p t ≡ x .front = ap (take p) (x .text) ∙ take-at (x .front) _ p (sym (x .from)) in
     let b : drop (p + (4 + length (x .body))) t ≡ x .back =
@@ -211,6 +220,7 @@ blanked-parts {t} {p} {q} x =
     rw (n, length-replicate {A = ℕ} (4 + length (x .body)) 32, a, b)
 
 -- T6, the blanked side: the tokens before and after
-pub toks-parts : (a : List ℕ) (n : ℕ) (b : List ℕ) (o : ℕ) → toks (a ++ (replicate (suc n) 32 ++ b)) o ≡ toks a o ++ toks b (suc (o + length a) + n)
+pub toks-parts : (a : List ℕ) (n : ℕ) (b : List ℕ) (o : ℕ)
+    → toks (a ++ (replicate (suc n) 32 ++ b)) o ≡ toks a o ++ toks b (suc (o + length a) + n)
 toks-parts a n b o =
     toks-white a 32 (replicate n 32 ++ b) o white-32 ∙ rw (toks-blank n b (suc (o + length a)))

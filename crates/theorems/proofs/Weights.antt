@@ -1,25 +1,23 @@
 -- Weights: what the statements of a text and all that they record come to is bounded by the text's length.
 -- For the lengths of records; each token counts its bytes and one more.
-use mathlib.Core.Path.{_≡_, refl, sym, ap, _∙_}
-use mathlib.Core.Bool.{Bool, true, false}
-use mathlib.Core.List.{List, [], _∷_, _++_, map}
-use Prim.Native.Nat.{ℕ, zero, suc, _+_, _≤_}
+use mathlib.Core.Path.{_≡_, refl}
+use mathlib.Core.List.{List, [], _∷_, map}
+use Prim.Native.Nat.{ℕ, suc, _+_, _≤_}
 use native.Mathlib.Omega.{arith}
 use lib.ListN.{length, drop}
-use Rattle.paper.specs.Base.{choose, keep}
 use Rattle.paper.specs.Bytes.{white}
 use Rattle.paper.specs.Tokens.{Token, put, run, toks, tokens, key}
 use Rattle.paper.specs.Comments.{Place, outside, inside, next, visible}
 use Rattle.paper.specs.Statements.{Kind, $c, $v, $d, $f, $e, $a, $p, Statement, outermost, Item, opens, closes, states, ends}
-use Rattle.paper.specs.Reader.{start, given, items}
+use Rattle.paper.specs.Reader.{given, items}
 use Rattle.paper.specs.State.{Symbol, con, var, Formula, Hyp, float, essential, Disjoint, State, nothing, plus, active-hyp, active-disjoint, view, Sense, inactive, constant, variable, sense}
 use Rattle.paper.specs.Checks.{Diag, token, check-label, check-float, check-expression, check-disjoint}
 use Rattle.paper.specs.Frames.{Frame, symbol-of, symbol, formula}
 use Rattle.paper.specs.Give.{Given, accept, unless, give-c, give-v, give-d, give-f, give-e, give-assertion, give-by, give}
 use Rattle.paper.proofs.Tests.{split}
-use Rattle.paper.proofs.Sums.{total, total-append, total-keep, total-map}
-use Rattle.theorems.proofs.Reader.{token-weight, weight, statement-weight, item-weight, items-weight, reads-weight}
-use Rattle.theorems.proofs.Parts.{Read, items-read, read-reads}
+use Rattle.paper.proofs.Sums.{total, total-append, total-keep}
+use Rattle.theorems.proofs.Reader.{weight, statement-weight, items-weight, reads-weight}
+use Rattle.theorems.proofs.Parts.{items-read, read-reads}
 
 -- ---- tokens of bytes
 put-weight : (o : ℕ) (h : List ℕ) (l : List Token) → weight (put o h l) ≤ suc (length h) + weight l
@@ -60,7 +58,8 @@ ends-weight (opens p ∷ i) l = omega (arith, ends-weight i l)
 ends-weight (closes q ∷ i) l = omega (arith, ends-weight i l)
 ends-weight (states s ∷ i) l = omega (arith, ends-weight i l)
 
-pub text-weight : (t : List ℕ) (i : List Item) → items (tokens t) (length t) ≡ given i → statements-weight (ends i []) ≤ suc (length t)
+pub text-weight : (t : List ℕ) (i : List Item) → items (tokens t) (length t) ≡ given i
+    → statements-weight (ends i []) ≤ suc (length t)
 unfolding tokens
 text-weight t i e =
     let r = reads-weight (read-reads (items-read (tokens t) (length t) i e)) in
@@ -107,16 +106,19 @@ unfolding total
 body-weight w v [] = refl
 body-weight w v (t ∷ l) = omega (arith, symbol-of-weight (sense w v t) (t .bytes), body-weight w v l)
 
-first-weight : (s : Statement) (m : List Token) → s .math ≡ m → length (token s 0 .bytes) + weight (drop 1 (s .math)) ≤ weight (s .math)
+first-weight : (s : Statement) (m : List Token) → s .math ≡ m
+    → length (token s 0 .bytes) + weight (drop 1 (s .math)) ≤ weight (s .math)
 unfolding total
 first-weight s [] e = rw e (omega arith)
 first-weight s (t ∷ m) e = rw e (omega arith)
 
-pub formula-light : (w : List Statement) (v : State) (s : Statement) → formula-weight (formula w v s) ≤ weight (s .math)
+pub formula-light : (w : List Statement) (v : State) (s : Statement)
+    → formula-weight (formula w v s) ≤ weight (s .math)
 unfolding formula
 formula-light w v s = omega (arith, body-weight w v (drop 1 (s .math)), first-weight s (s .math) refl)
 
-pub two-light : (s : Statement) (m : List Token) → s .math ≡ m → length (token s 1 .bytes) + length (token s 0 .bytes) ≤ weight (s .math)
+pub two-light : (s : Statement) (m : List Token) → s .math ≡ m
+    → length (token s 1 .bytes) + length (token s 0 .bytes) ≤ weight (s .math)
 unfolding total
 two-light s [] e = rw e (omega arith)
 two-light s (t ∷ []) e = rw e (omega arith)
@@ -127,17 +129,20 @@ unfolding total
 names-light [] = refl
 names-light (t ∷ l) = omega (arith, names-light l)
 
-accept-light : (n : ℕ) (d : List Diag) (r : State) (f : List Frame) → state-weight r ≤ n → state-weight (accept d r f .records) ≤ n
+accept-light : (n : ℕ) (d : List Diag) (r : State) (f : List Frame) → state-weight r ≤ n
+    → state-weight (accept d r f .records) ≤ n
 unfolding total
 accept-light n [] r f h = h
 accept-light n (x ∷ d) r f h = omega arith
 
-unless-light : (n : ℕ) (d : List Diag) (g : Given) → state-weight (g .records) ≤ n → state-weight (unless d g .records) ≤ n
+unless-light : (n : ℕ) (d : List Diag) (g : Given) → state-weight (g .records) ≤ n
+    → state-weight (unless d g .records) ≤ n
 unfolding total
 unless-light n [] g h = h
 unless-light n (x ∷ d) g h = omega arith
 
-light-by : (k : Kind) (w : List Statement) (v : State) (s : Statement) → state-weight (give-by k w v s .records) ≤ statement-weight s
+light-by : (k : Kind) (w : List Statement) (v : State) (s : Statement)
+    → state-weight (give-by k w v s .records) ≤ statement-weight s
 unfolding give-c give-v give-d give-f give-e give-assertion total
 light-by $c w v s = split (outermost s) (λ e. rw e (omega arith)) (λ e. rw e (omega arith))
 light-by $v w v s = split (outermost s) (λ e. rw e (omega arith)) (λ e. rw e (omega arith))

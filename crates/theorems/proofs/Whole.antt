@@ -3,38 +3,43 @@
 use mathlib.Core.Path.{_≡_, refl, sym, ap, _∙_}
 use mathlib.Core.Bool.{Bool, true, false}
 use mathlib.Core.List.{List, [], _∷_, _++_, map, append-nil}
-use mathlib.Core.Option.{Option, none, some}
 use Prim.Native.Nat.{ℕ, suc, _<_, _≤_}
 use native.Mathlib.Omega.{arith}
 use lib.Dec.{leb}
 use lib.ListN.{drop}
 use borrow.Author.Tests.{ne-eqb, le-leb, lt-leb}
-use Rattle.paper.specs.Base.{choose, not, within, sameb, any, keep, find, orElse, gather}
+use Rattle.paper.specs.Base.{not, within, sameb, any, keep, gather}
 use Rattle.paper.specs.Tokens.{Token}
-use Rattle.paper.specs.Statements.{Kind, $c, $v, $d, $f, $e, $a, $p, labelled, Statement, none-end, outermost}
-use Rattle.paper.specs.Names.{named, bearer, labels, owner, Declared, declarations, declared, declares-name, global}
+use Rattle.paper.specs.Statements.{Kind, $c, $v, $d, $f, $e, $a, $p, Statement, none-end, outermost}
+use Rattle.paper.specs.Names.{named, bearer, labels, owner, declarations, declared, global}
 use Rattle.paper.specs.State.{Nested, State, sense}
-use Rattle.paper.specs.Checks.{Diag, diag, each, token, check-label, outer-token, check-outer, clash, verdict, verdict-diags, records, nested-records, nested-diags, check-float, symbol-token, check-expression, disjoint-token, check-disjoint}
+use Rattle.paper.specs.Checks.{Diag, each, token, check-label, outer-token, check-outer, verdict, records, nested-records, nested-diags, check-float, symbol-token, check-expression, disjoint-token, check-disjoint}
 use Rattle.paper.specs.Frames.{symbol, formula}
-use Rattle.paper.specs.Give.{Given, only, with-nested, give-c, give-v, give-d, give-f, give-e, give-assertion, give-by, give}
+use Rattle.paper.specs.Give.{give-c, give-v, give-d, give-f, give-e, give-assertion, give-by, give}
 use Rattle.paper.proofs.Tests.{split, same-refl}
 use Rattle.paper.proofs.Lists.{gather-append, keep-append, find-append}
-use Rattle.paper.proofs.All.{All, nil, cons, all-append, all-head, all-map, all-ungather, gather-none, keep-all, keep-none, any-left, any-right, find-any}
-use Rattle.theorems.specs.Groups.{inside, outside, symbols-by, symbols, borne, declared-in, Apart}
+use Rattle.paper.proofs.Alls.{All, all-none, all-more, all-first, all-map, keep-all, keep-none}
+use Rattle.paper.proofs.Searches.{all-ungather, gather-none, find-any}
+use Rattle.theorems.specs.Groups.{inside, outside, symbols, borne, declared-in, Apart}
 use Rattle.theorems.proofs.Parts.{Three}
 
 -- ---- W3: what is asked of the whole text
+abbrev pub SameOwner : List Statement → List Statement → Token → Type 0
+SameOwner w x t = owner w (t .bytes) ≡ owner x (t .bytes)
+
 pub record Agree (w x : List Statement) (s : Statement) : Type 0 where
   pub globals : declared w ≡ declared x
-  pub label-owner : All (λ t. owner w (t .bytes) ≡ owner x (t .bytes)) (bearer s)
-  pub symbol-owners : All (λ t. owner w (t .bytes) ≡ owner x (t .bytes)) (symbols s)
+  pub label-owner : All (SameOwner w x) (bearer s)
+  pub symbol-owners : All (SameOwner w x) (symbols s)
 
-each-same : {P : Token → Type 0} (f g : ℕ → Token → List Diag) → ((i : ℕ) (t : Token) → P t → f i t ≡ g i t) → {l : List Token} → All P l → (i : ℕ) → each f l i ≡ each g l i
+each-same : {P : Token → Type 0} (f g : ℕ → Token → List Diag) → ((i : ℕ) (t : Token) → P t → f i t ≡ g i t)
+    → {l : List Token} → All P l → (i : ℕ) → each f l i ≡ each g l i
 unfolding each
-each-same f g h nil i = refl
-each-same f g h (cons {x = t} p a) i = rw (h i t p, each-same f g h a (suc i))
+each-same f g h all-none i = refl
+each-same f g h (all-more {x = t} p a) i = rw (h i t p, each-same f g h a (suc i))
 
-each-equal : (f g : ℕ → Token → List Diag) → ((i : ℕ) (t : Token) → f i t ≡ g i t) → (l : List Token) (i : ℕ) → each f l i ≡ each g l i
+each-equal : (f g : ℕ → Token → List Diag) → ((i : ℕ) (t : Token) → f i t ≡ g i t) → (l : List Token) (i : ℕ)
+    → each f l i ≡ each g l i
 unfolding each
 each-equal f g h [] i = refl
 each-equal f g h (t ∷ l) i = rw (h i t, each-equal f g h l (suc i))
@@ -48,7 +53,8 @@ module _ (w x : List Statement) (d : declared w ≡ declared x) where
   unfolding global
   global-same n = rw d
 
-  outer-same : (s i : ℕ) (t : Token) → owner w (t .bytes) ≡ owner x (t .bytes) → outer-token w s i t ≡ outer-token x s i t
+  outer-same : (s i : ℕ) (t : Token) → owner w (t .bytes) ≡ owner x (t .bytes)
+      → outer-token w s i t ≡ outer-token x s i t
   outer-same s i t o = rw (o, global-same (t .bytes))
 
   verdict-same : (l : List Nested) (t : Token) → verdict w l t ≡ verdict x l t
@@ -60,10 +66,11 @@ module _ (w x : List Statement) (d : declared w ≡ declared x) where
   records-same e [] k = refl
   records-same e (t ∷ l) k = rw (verdict-same k t, records-same e l _)
 
-  diags-same : (s e : ℕ) {l : List Token} → All (λ t. owner w (t .bytes) ≡ owner x (t .bytes)) l → (i : ℕ) (k : List Nested) → nested-diags w s e l i k ≡ nested-diags x s e l i k
+  diags-same : (s e : ℕ) {l : List Token} → All (SameOwner w x) l → (i : ℕ) (k : List Nested)
+      → nested-diags w s e l i k ≡ nested-diags x s e l i k
   unfolding nested-diags records
-  diags-same s e nil i k = refl
-  diags-same s e (cons {x = t} o a) i k = rw (o, verdict-same k t, diags-same s e a (suc i) _)
+  diags-same s e all-none i k = refl
+  diags-same s e (all-more {x = t} o a) i k = rw (o, verdict-same k t, diags-same s e a (suc i) _)
 
   sense-same : (v : State) (t : Token) → sense w v t ≡ sense x v t
   unfolding sense
@@ -92,7 +99,8 @@ module _ (w x : List Statement) (d : declared w ≡ declared x) where
   unfolding check-label
   label-same s o = rw o
 
-  give-same-by : (k : Kind) (s : Statement) → s .kind ≡ k → All (λ t. owner w (t .bytes) ≡ owner x (t .bytes)) (bearer s) → All (λ t. owner w (t .bytes) ≡ owner x (t .bytes)) (symbols s) → (v : State) → give-by k w v s ≡ give-by k x v s
+  give-same-by : (k : Kind) (s : Statement) → s .kind ≡ k → All (SameOwner w x) (bearer s)
+      → All (SameOwner w x) (symbols s) → (v : State) → give-by k w v s ≡ give-by k x v s
   unfolding give-c give-v give-d give-f give-e give-assertion check-outer
   give-same-by $c s e l m v = rw (each-same (outer-token w (s .at)) (outer-token x (s .at)) (outer-same (s .at)) (rw e at m) 0)
   give-same-by $v s e l m v =
@@ -102,10 +110,10 @@ module _ (w x : List Statement) (d : declared w ≡ declared x) where
         records-same (s .end) (s .math) (v .nested),
       )
   give-same-by $d s e l m v = rw (disjoint-same v s)
-  give-same-by $f s e l m v = rw (label-same s (all-head (rw e at l)), float-same v s)
-  give-same-by $e s e l m v = rw (label-same s (all-head (rw e at l)), expression-same v s, formula-same v s)
-  give-same-by $a s e l m v = rw (label-same s (all-head (rw e at l)), expression-same v s, formula-same v s)
-  give-same-by $p s e l m v = rw (label-same s (all-head (rw e at l)), expression-same v s, formula-same v s)
+  give-same-by $f s e l m v = rw (label-same s (all-first (rw e at l)), float-same v s)
+  give-same-by $e s e l m v = rw (label-same s (all-first (rw e at l)), expression-same v s, formula-same v s)
+  give-same-by $a s e l m v = rw (label-same s (all-first (rw e at l)), expression-same v s, formula-same v s)
+  give-same-by $p s e l m v = rw (label-same s (all-first (rw e at l)), expression-same v s, formula-same v s)
 
 pub give-same : {w x : List Statement} {s : Statement} → Agree w x s → (v : State) → give w v s ≡ give x v s
 unfolding give
@@ -177,30 +185,39 @@ module _ {w x : List Statement} {p q : ℕ} (h : Three w x p q) where
       )
 
 -- what holds of the names of some tokens holds of each
-named-all : (Q : List ℕ → Type 0) (l : List Token) → ((n : List ℕ) → any (named n) l ≡ true → Q n) → All (λ t. Q (t .bytes)) l
+named-all : (Q : List ℕ → Type 0) (l : List Token) → ((n : List ℕ) → any (named n) l ≡ true → Q n)
+    → All (λ t. Q (t .bytes)) l
 unfolding any
-named-all Q [] f = nil
+named-all Q [] f = all-none
 named-all Q (t ∷ l) f =
-    cons (f (t .bytes) (rw (same-refl (t .bytes))))
+    all-more (f (t .bytes) (rw (same-refl (t .bytes))))
     (named-all Q l (λ n e. f n (split (sameb (t .bytes) n) (λ k. rw k) (λ k. rw k e))))
 
 refuted : {a b : Bool} → (a ≡ true → b ≡ false) → b ≡ true → a ≡ false
 refuted {a} {b} f e = split a (λ k. let z : b ≡ false = f k in cc) (λ k. k)
 
 -- ---- W4: the premise of demand 3 suffices
-pub agree : {w x : List Statement} {p q : ℕ} → Three w x p q → q < none-end → Apart w p q → All (Agree w x) x
-unfolding labels
-agree {w} {x} {p} {q} h k a =
-    let g = globals-same h k in
-    let free : (n : List ℕ) → borne n (h .within-it) ≡ false → owner w n ≡ owner x n = owner-same h in
-    let one : All (λ t. owner w (t .bytes) ≡ owner x (t .bytes)) (labels x) =
-    named-all (λ n. owner w n ≡ owner x n) (labels x)
-    (λ n e. free n (refuted (rw (inside-are h, outside-are h) at (a .labels-apart n)) e)) in
-    let two : All (λ t. owner w (t .bytes) ≡ owner x (t .bytes)) (gather symbols x) =
-    named-all (λ n. owner w n ≡ owner x n) (gather symbols x)
-    (λ n e. free n (refuted (rw (inside-are h, outside-are h) at (a .symbols-apart n)) e)) in
-    both g (all-ungather bearer x one) (all-ungather symbols x two)
-  where
-    both : {w x l : List Statement} → declared w ≡ declared x → All (λ s. All (λ t. owner w (t .bytes) ≡ owner x (t .bytes)) (bearer s)) l → All (λ s. All (λ t. owner w (t .bytes) ≡ owner x (t .bytes)) (symbols s)) l → All (Agree w x) l
-    both g nil nil = nil
-    both g (cons a b) (cons c d) = cons (record { globals = g; label-owner = a; symbol-owners = c }) (both g b d)
+both : {w x l : List Statement} → declared w ≡ declared x → All (λ s. All (SameOwner w x) (bearer s)) l
+    → All (λ s. All (SameOwner w x) (symbols s)) l → All (Agree w x) l
+both g all-none all-none = all-none
+both g (all-more a b) (all-more c d) = all-more (record { globals = g; label-owner = a; symbol-owners = c }) (both g b d)
+
+module _ {w x : List Statement} {p q : ℕ} (h : Three w x p q) (a : Apart w p q) where
+  labels-free : All (SameOwner w x) (labels x)
+  labels-free =
+      named-all (λ n. owner w n ≡ owner x n) (labels x)
+      (λ n e.
+      owner-same h n
+      (refuted (λ k. sym (ap (borne n) (outside-are h)) ∙ a .labels-apart n (ap (borne n) (inside-are h) ∙ k)) e))
+
+  symbols-free : All (SameOwner w x) (gather symbols x)
+  symbols-free =
+      named-all (λ n. owner w n ≡ owner x n) (gather symbols x)
+      (λ n e.
+      owner-same h n
+      (refuted (λ k. sym (ap (declared-in n) (outside-are h)) ∙ a .symbols-apart n (ap (borne n) (inside-are h) ∙ k)) e))
+
+  pub agree : q < none-end → All (Agree w x) x
+  unfolding labels
+  agree k =
+      both (globals-same h k) (all-ungather bearer x labels-free) (all-ungather symbols x symbols-free)

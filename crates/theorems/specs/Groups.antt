@@ -10,7 +10,7 @@ use lib.ListN.{length, replicate}
 use Rattle.paper.specs.Base.{choose, not, within, any, keep, gather}
 use Rattle.paper.specs.Tokens.{Token, tokens}
 use Rattle.paper.specs.Statements.{Kind, $c, $v, $d, $f, $e, $a, $p, Statement, Item, opens, closes, states, closers, ends}
-use Rattle.paper.specs.Reader.{Outcome, given, items}
+use Rattle.paper.specs.Reader.{given, items}
 use Rattle.paper.specs.Names.{named, labels}
 use Rattle.paper.specs.Answer.{laid}
 
@@ -36,8 +36,11 @@ abbrev pub statements : {t : List ℕ} {p q : ℕ} → Group t p q → List Stat
 statements g = ends (g .read) []
 
 -- the text with bytes p to q + 1 overwritten by 32
+abbrev pub span : ℕ → ℕ → ℕ
+span p q = (q + 2) - p
+
 unfoldable pub blanked : List ℕ → ℕ → ℕ → List ℕ
-blanked t p q = laid t p (replicate ((q + 2) - p) 32)
+blanked t p q = laid t p (replicate (span p q) 32)
 
 -- ---- statements inside the group, and the others
 abbrev pub inside : ℕ → ℕ → Statement → Bool
@@ -66,7 +69,14 @@ borne n l = any (named n) (labels l)
 abbrev pub declared-in : List ℕ → List Statement → Bool
 declared-in n l = any (named n) (gather symbols l)
 
--- no label borne by a statement inside is borne by one outside, or is a math token of a `$c` or `$v` outside
+-- no label borne by a statement inside is borne by one outside
+abbrev pub LabelsApart : List Statement → ℕ → ℕ → Type 0
+LabelsApart l p q = (n : List ℕ) → borne n (keep (inside p q) l) ≡ true → borne n (keep (outside p q) l) ≡ false
+
+-- or is a math token of a `$c` or `$v` outside
+abbrev pub SymbolsApart : List Statement → ℕ → ℕ → Type 0
+SymbolsApart l p q = (n : List ℕ) → borne n (keep (inside p q) l) ≡ true → declared-in n (keep (outside p q) l) ≡ false
+
 pub record Apart (l : List Statement) (p q : ℕ) : Type 0 where
-  pub labels-apart : (n : List ℕ) → borne n (keep (inside p q) l) ≡ true → borne n (keep (outside p q) l) ≡ false
-  pub symbols-apart : (n : List ℕ) → borne n (keep (inside p q) l) ≡ true → declared-in n (keep (outside p q) l) ≡ false
+  pub labels-apart : LabelsApart l p q
+  pub symbols-apart : SymbolsApart l p q

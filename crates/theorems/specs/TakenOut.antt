@@ -1,6 +1,6 @@
 -- A record stream with the records taken out whose statement offset lies between p and q.
 -- The walk goes from record to record by their length fields; the offset is the four bytes after length and kind.
-use mathlib.Core.Bool.{Bool, true, false}
+use mathlib.Core.Bool.{Bool, true}
 use mathlib.Core.List.{List, [], _∷_}
 use Prim.Native.Nat.{ℕ, zero, suc, _+_}
 use Rattle.paper.specs.Base.{choose, not, within}

@@ -9,9 +9,6 @@ use Rattle.slots.proofs.look.check_math_symbol.Lts as lts
 use Rattle.slots.proofs.look.by_nested.Reads as by-nested-reads
 use Rattle.slots.proofs.look.global_of.Reads as global-of-reads
 
-cast-global-of : tie.Need-cast-global-of
-cast-global-of c = search needs
-
 global-of-requires : tie.Need-global-of-requires
 global-of-requires c κs = search needs
 
@@ -57,7 +54,6 @@ pub check-math-symbol-spec : {M : Type 1} → statement M
 check-math-symbol-spec =
     tie.close
     (tie.spec
-    cast-global-of
     global-of-requires
     enum-known-g
     returns

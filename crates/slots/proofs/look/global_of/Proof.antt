@@ -8,6 +8,9 @@ use Rattle.slots.proofs.look.global_of.Reads as reads
 use Rattle.slots.proofs.look.global_of.Lts as lts
 use Rattle.slots.proofs.cells.of_symbol.Reads as of-symbol-reads
 
+cast-of-symbol : tie.Need-cast-of-symbol
+cast-of-symbol c = search needs
+
 of-symbol-requires : tie.Need-of-symbol-requires
 of-symbol-requires c κs = search needs
 
@@ -27,4 +30,5 @@ unfolding global-slot
 returns-3 c = rw (← (c .before .before .of-symbol .ensures), ne-eqb _ _ (c .before .if1 .left), ne-eqb _ _ (c .if2 .left))
 
 pub global-of-spec : {M : Type 1} → statement M
-global-of-spec = tie.close (tie.spec of-symbol-requires returns sub-at returns-2 returns-3)
+global-of-spec =
+    tie.close (tie.spec cast-of-symbol of-symbol-requires returns sub-at returns-2 returns-3)

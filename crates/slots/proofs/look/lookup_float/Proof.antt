@@ -9,6 +9,9 @@ use Rattle.slots.proofs.look.lookup_float.Lts as lts
 use Rattle.slots.proofs.cells.of_statement.Reads as of-statement-reads
 use Rattle.slots.proofs.cells.of_symbol.Reads as of-symbol-reads
 
+cast-of-symbol : tie.Need-cast-of-symbol
+cast-of-symbol c = search needs
+
 of-symbol-requires : tie.Need-of-symbol-requires
 of-symbol-requires c κs = search needs
 
@@ -40,6 +43,7 @@ pub lookup-float-spec : {M : Type 1} → statement M
 lookup-float-spec =
     tie.close
     (tie.spec
+    cast-of-symbol
     of-symbol-requires
     returns
     sub-of-statement

@@ -1,7 +1,5 @@
-use mathlib.Core.Path.{refl}
 use native.Mathlib.Omega.{arith}
 use borrow.Author.Tests.{eq-eqb, ne-eqb}
-use borrow.Author.Needs.{needs}
 use Rattle.stream.proofs.walk.label_place.Statement.{statement}
 use Rattle.stream.proofs.walk.label_place.Tie as tie
 use Rattle.stream.proofs.walk.label_place.Reads as reads

@@ -1,9 +1,7 @@
-use mathlib.Core.Path.{_≡_, refl, sym, _∙_}
-use Prim.Native.Nat.{_-_, _≤_}
+use mathlib.Core.Path.{sym, _∙_}
+use Prim.Native.Nat.{_-_}
 use native.Mathlib.Omega.{arith}
 use lib.ListN.{length}
-use Rattle.stream.specs.Framing.{framing}
-use Rattle.stream.specs.declared.walk.Framing.the-variants.{Well}
 use Rattle.stream.proofs.Search.{Walked, Stands, stands, walk-start, walk-bad, walk-step, walk-end}
 use borrow.Author.Needs.{needs}
 use Rattle.stream.proofs.walk.lookup.Statement.{statement}
@@ -19,12 +17,9 @@ Inv-loop frames label found₀ at₀ found at = Walked frames label found at
 abbrev μ-loop : tie.MeasureT-loop
 μ-loop frames label found₀ at₀ found at = length frames - at
 
--- own --
 -- the record that the walk stands at
 stood : (c : tie.After-known-told Inv-loop μ-loop) → Stands (c .before .before .before .before .before .before .before .before .args .frames .now) (c .before .before .before .before .before .loop .at) (c .before .r .given .0 .0)
 stood c = stands _ _ _ (sym (c .before .before .before .record-at .ensures) ∙ c .before .r .given .1)
-
--- end own --
 
 loop-holds : tie.Need-loop-holds Inv-loop μ-loop
 loop-holds c = walk-start _ _
