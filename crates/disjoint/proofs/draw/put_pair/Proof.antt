@@ -11,7 +11,7 @@ use Rattle.stream.proofs.bits.set_bit.Reads as set-bit-reads
 use Rattle.stream.proofs.write.put_u16.Reads as put-u16-reads
 
 mul-line : tie.Need-mul-line
-mul-line c = record { fits = omega (arith, pair-fits (c .before .before .pre) .left) }
+mul-line c = record { fits = omega (arith, pair-fits (c .before .before .pre)) }
 
 add-line : tie.Need-add-line
 add-line c = record { fits = omega (arith, pair-fits (c .before .before .before .pre)) }
@@ -29,7 +29,7 @@ set-bit-requires : tie.Need-set-bit-requires
 set-bit-requires c κs = omega (arith, pair-fits (c .before .before .before .before .before .before .before .pre))
 
 mul-set-bit : tie.Need-mul-set-bit
-mul-set-bit c = record { fits = omega (arith, pair-fits (c .before .before .before .before .before .before .before .before .before .before .before .before .pre) .right) }
+mul-set-bit c = record { fits = omega (arith, pair-fits (c .before .before .before .before .before .before .before .before .before .before .before .before .pre)) }
 
 add-set-bit : tie.Need-add-set-bit
 add-set-bit c = record { fits = omega (arith, pair-fits (c .before .before .before .before .before .before .before .before .before .before .before .before .before .pre)) }
