@@ -16,7 +16,7 @@ use Rattle.paper.proofs.Tests.{split}
 use Rattle.token.specs.Words.{tokens-from, token-at, move}
 use Rattle.token.specs.declared.cursor.Span.{Span}
 use Rattle.token.specs.declared.cursor.Cursor.{Cursor}
-use Rattle.token.proofs.Read.{Read}
+use Rattle.token.specs.Words.{Read}
 use Rattle.token.proofs.Parts.{tokens-part}
 use Rattle.checks.specs.Visible.{visible-from, hidden-from, First, Past}
 

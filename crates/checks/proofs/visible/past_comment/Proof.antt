@@ -5,7 +5,8 @@ use lib.ListN.{length}
 use borrow.Author.Tests.{not-true, not-false}
 use Rattle.paper.specs.Tokens.{key}
 use Rattle.token.specs.Words.{tokens-from}
-use Rattle.token.proofs.Read.{Read, read-token, read-done}
+use Rattle.token.specs.Words.{Read}
+use Rattle.token.proofs.Read.{read-token, read-done}
 use Rattle.checks.proofs.Comments.{Hides, fewer-on, past-start, past-more, past-end, past-none, Seen, seen-start, first-found, first-later, first-none}
 use borrow.Author.Needs.{needs}
 use Rattle.checks.proofs.visible.past_comment.Statement.{statement}
