@@ -1,4 +1,4 @@
--- Comments passed token by token, and the math tokens of a statement as the tokens of its part.
+-- The tokens of a part of the text outside comments, and the math tokens of a statement as those of its part.
 -- Assumes nothing.
 use mathlib.Core.Path.{_≡_, refl, sym, ap, _∙_}
 use mathlib.Core.Bool.{Bool, true, false}
@@ -13,87 +13,33 @@ use Rattle.paper.specs.Bytes.{white}
 use Rattle.paper.specs.Tokens.{Token, put, run, toks, key}
 use Rattle.paper.specs.Comments.{Place, outside, inside, next, shown, visible}
 use Rattle.paper.proofs.Tests.{split}
+use Rattle.paper.proofs.Comments.{visible-append}
 use Rattle.token.specs.Words.{tokens-from, token-at, move}
 use Rattle.token.specs.declared.cursor.Span.{Span}
-use Rattle.token.specs.declared.cursor.Cursor.{Cursor}
-use Rattle.token.specs.Words.{Read}
+use Rattle.reader.specs.Passed.{Passed, Shows}
+use Rattle.reader.proofs.Passes.{tokens-end, passed-shows}
 use Rattle.token.proofs.Parts.{tokens-part}
-use Rattle.checks.specs.Visible.{visible-from, hidden-from, First, Past}
+use Rattle.checks.specs.Visible.{visible-from, First}
 
--- which comment is open does not matter
-inside-any : (l : List Token) (o p : ℕ) → visible l (inside o) ≡ visible l (inside p)
+-- ---- what a look for the next token passed
+visible-past : {q : List ℕ} {i e : ℕ} {p : Place} {m : List Token} → Passed q i e outside m p → visible-from q i ≡ m ++ visible (tokens-from q e) p
+unfolding visible-from
+visible-past {q} {i} {e} x =
+    ap (λ (l : List Token). visible l outside) (x .split)
+    ∙ visible-append (x .pre) (tokens-from q e) outside
+    ∙ rw (x .shows, x .place)
+
+pub first-of : {q : List ℕ} {i : ℕ} {x : Span} → Shows q i x → First q i (x .start) (x .stop)
+unfolding visible-from
+first-of h =
+    record { rest = visible-past (passed-shows h); some = h .whole .some; within = h .whole .within }
+
+nothing-more : (q : List ℕ) (p : Place) → visible (tokens-from q (length q)) p ≡ []
 unfolding visible
-inside-any [] o p = refl
-inside-any (x ∷ l) o p = split (key 41 x) (λ e. rw e) (λ e. rw e (inside-any l o p))
+nothing-more q p = ap (λ (l : List Token). visible l p) (tokens-end q)
 
--- one token on
-shown-on : (l m : List Token) (x : Token) → l ≡ x ∷ m → key 40 x ≡ false → visible l outside ≡ x ∷ visible m outside
-unfolding visible
-shown-on l m x e q = rw (e, q)
-
-opened-on : (l m : List Token) (x : Token) → l ≡ x ∷ m → key 40 x ≡ true → visible l outside ≡ visible m (inside 0)
-unfolding visible
-opened-on l m x e q = rw (e, q) (inside-any m (x .at) 0)
-
-closed-on : (l m : List Token) (x : Token) → l ≡ x ∷ m → key 41 x ≡ true → visible l (inside 0) ≡ visible m outside
-unfolding visible
-closed-on l m x e q = rw (e, q)
-
-hidden-on : (l m : List Token) (x : Token) → l ≡ x ∷ m → key 41 x ≡ false → visible l (inside 0) ≡ visible m (inside 0)
-unfolding visible
-hidden-on l m x e q = rw (e, q)
-
-pub fewer-on : {q : List ℕ} {i : ℕ} {x : Span} {c : Cursor} → Read q i x c → suc (length (tokens-from q (c .at))) ≡ length (tokens-from q i)
-fewer-on r = sym (ap length (r .rest))
-
--- ---- a comment: from j on nothing else is hidden than from i on
-pub record Hides (q : List ℕ) (i j : ℕ) : Type 0 where
-  pub same : hidden-from q j ≡ hidden-from q i
-  pub fewer : length (tokens-from q j) ≤ length (tokens-from q i)
-
-pub past-start : (q : List ℕ) (i : ℕ) → Hides q i i
-past-start q i = record { same = refl; fewer = le-refl _ }
-
-module _ {q : List ℕ} {i j : ℕ} {x : Span} {c : Cursor} (r : Read q j x c) (h : Hides q i j) where
-  pub past-more : key 41 (token-at q (x .start) (x .stop)) ≡ false → Hides q i (c .at)
-  unfolding hidden-from
-  past-more k =
-      record { same = sym (hidden-on _ _ _ (r .rest) k) ∙ h .same; fewer = omega (arith, fewer-on r, h .fewer) }
-
-  pub past-end : key 41 (token-at q (x .start) (x .stop)) ≡ true → Past q i (c .at)
-  unfolding hidden-from visible-from
-  past-end k =
-      record { rest = sym (closed-on _ _ _ (r .rest) k) ∙ h .same; fewer = omega (arith, fewer-on r, h .fewer) }
-
-pub past-none : {q : List ℕ} {i j : ℕ} → Hides q i j → tokens-from q j ≡ [] → Past q i j
-unfolding hidden-from visible-from visible
-past-none {q} {i} {j} h e =
-    record { rest = rw e (sym (ap (λ (l : List Token). visible l (inside 0)) e) ∙ h .same); fewer = h .fewer }
-
--- ---- the first token outside comments: from j on the same are visible as from i on
-pub record Seen (q : List ℕ) (i j : ℕ) : Type 0 where
-  pub same : visible-from q j ≡ visible-from q i
-
-pub seen-start : (q : List ℕ) (i : ℕ) → Seen q i i
-seen-start q i = record { same = refl }
-
-module _ {q : List ℕ} {i j : ℕ} {x : Span} {c : Cursor} (r : Read q j x c) (h : Seen q i j) where
-  pub first-found : key 40 (token-at q (x .start) (x .stop)) ≡ false → First q i (x .start) (x .stop)
-  unfolding visible-from
-  first-found k =
-      record {
-        rest = sym (h .same) ∙ shown-on _ _ _ (r .rest) k ∙ ap (λ (p : ℕ). token-at q (x .start) (x .stop) ∷ visible (tokens-from q p) outside) (r .stands);
-        some = r .some;
-        within = r .within;
-      }
-
-  pub first-later : {p : ℕ} → key 40 (token-at q (x .start) (x .stop)) ≡ true → Past q (c .at) p → Seen q i p
-  unfolding visible-from hidden-from
-  first-later k y = record { same = y .rest ∙ sym (opened-on _ _ _ (r .rest) k) ∙ h .same }
-
-pub first-none : {q : List ℕ} {i j : ℕ} → Seen q i j → tokens-from q j ≡ [] → visible-from q i ≡ []
-unfolding visible-from visible
-first-none h e = sym (h .same) ∙ ap (λ (l : List Token). visible l outside) e
+pub none-of : {q : List ℕ} {i : ℕ} {p : Place} → Passed q i (length q) outside [] p → visible-from q i ≡ []
+none-of {q} {p = p} x = visible-past x ∙ nothing-more q p
 
 -- ---- a part whose first byte has offset k
 abbrev moved : ℕ → Place → Place

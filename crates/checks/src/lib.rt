@@ -2,7 +2,6 @@
 // Every diagnostic goes through `stream::record::put_diag`; what was found decides which.
 pub mod put;
 pub mod tokens;
-pub mod visible;
 pub mod walks;
 
 /// What stands against recording a nested `$v` token: a kind and its other, or nothing.

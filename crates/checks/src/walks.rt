@@ -4,11 +4,11 @@ use crate::tokens::check_dv_token;
 use crate::tokens::check_eap_token;
 use crate::tokens::check_nested;
 use crate::tokens::check_outer;
-use crate::visible::Visible;
-use crate::visible::next_visible;
 use paper::Atom;
 use paper::StatementOffset;
 use paper::TokenIndex;
+use reader::comment::Visible;
+use reader::comment::next_visible;
 use slots::cells::of_math;
 use slots::mark::forget_dv;
 use token::class::table;
@@ -98,22 +98,17 @@ pub fn walk_outer(
     let mut i = 0;
     let mut c = 0;
     loop {
-        let Visible::Token(start, stop) = next_visible(&classes, part, c) else {
-            return p;
-        };
-        let atom = Atom(of_math(work, n, first + i));
-        p = check_outer(
-            work,
-            n,
-            diags,
-            p,
-            atom,
-            from + start as u32,
-            s,
-            TokenIndex(i as u32),
-        );
-        i += 1;
-        c = stop;
+        match next_visible(&classes, part, c) {
+            Visible::Token(x) => {
+                let atom = Atom(of_math(work, n, first + i));
+                let offset = from + x.start as u32;
+                p = check_outer(work, n, diags, p, atom, offset, s, TokenIndex(i as u32));
+                i += 1;
+                c = x.stop;
+            }
+            Visible::Open(_) => return p,
+            Visible::End => return p,
+        }
     }
 }
 
@@ -137,22 +132,26 @@ pub fn walk_nested(
     let mut i = 0;
     let mut c = 0;
     loop {
-        let Visible::Token(start, stop) = next_visible(&classes, part, c) else {
-            return p;
-        };
-        let atom = Atom(of_math(work, n, first + i));
-        p = check_nested(
-            work,
-            n,
-            diags,
-            p,
-            atom,
-            from + start as u32,
-            end,
-            s,
-            TokenIndex(i as u32),
-        );
-        i += 1;
-        c = stop;
+        match next_visible(&classes, part, c) {
+            Visible::Token(x) => {
+                let atom = Atom(of_math(work, n, first + i));
+                let offset = from + x.start as u32;
+                p = check_nested(
+                    work,
+                    n,
+                    diags,
+                    p,
+                    atom,
+                    offset,
+                    end,
+                    s,
+                    TokenIndex(i as u32),
+                );
+                i += 1;
+                c = x.stop;
+            }
+            Visible::Open(_) => return p,
+            Visible::End => return p,
+        }
     }
 }
