@@ -76,3 +76,8 @@ pub cleared-all : {w v : List ℕ} → Cleared 0 (length w) w v → v ≡ replic
 cleared-all {w} {v} x =
     all-zero v (λ i l. x .zeros i zero-le (omega (arith, x .only .len)))
     ∙ ap (λ n. replicate n 0) (x .only .len)
+
+-- the word that code reads at a cell
+pub word-at : (w : List ℕ) {i j : ℕ} → i ≡ j → getD w i 0 ≡ word w j
+unfolding word
+word-at w e = ap (λ k. getD w k 0) e

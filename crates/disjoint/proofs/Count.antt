@@ -4,50 +4,20 @@ use mathlib.Core.Path.{_≡_, refl, sym, ap, _∙_}
 use mathlib.Core.Logic.{_≢_}
 use mathlib.Core.Bool.{Bool, true, false}
 use mathlib.Core.List.{List, [], _∷_, _++_, append-assoc, append-nil}
-use Prim.Native.Nat.{ℕ, zero, suc, _+_, _<_, _≤_}
+use Prim.Native.Nat.{ℕ, _+_, _<_}
 use native.Mathlib.Omega.{arith}
 use lib.Dec.{eqb, ltb}
-use lib.ListN.{length, length-append}
-use borrow.Author.Tests.{eqb-true, eq-eqb, ltb-true, ltb-false, lt-ltb, le-ltb}
+use lib.ListN.{length}
+use borrow.Author.Tests.{eq-eqb, ltb-true, ltb-false, lt-ltb}
 use Rattle.paper.specs.Base.{choose, and, or, not, any, all}
-use Rattle.paper.specs.Frames.{Pair, pair, same-pair, new-pair, new-pairs}
-use Rattle.paper.proofs.Tests.{split, clash, eqb-ne}
-use Rattle.disjoint.specs.Found.{both, meets, sum, one, rising, partners}
-use Rattle.disjoint.proofs.New.{any-append, both-ways, same-cases, same-straight, same-crossed, any-same, any-again}
-
--- ---- sums
-pub sum-same : (f g : ℕ → ℕ) (n : ℕ) → ((i : ℕ) → i < n → f i ≡ g i) → sum f n ≡ sum g n
-unfolding sum
-sum-same f g zero h = refl
-sum-same f g (suc n) h =
-    let a : sum f n ≡ sum g n = sum-same f g n (λ i l. h i (omega arith)) in
-    let b : f n ≡ g n = h n (omega arith) in
-    omega (arith, a, b)
-
-pub sum-one :
-    (f g : ℕ → ℕ) (n k : ℕ) → k < n → g k ≡ f k + 1 → ((i : ℕ) → i < n → i ≢ k → g i ≡ f i) → sum g n ≡ sum f n + 1
-unfolding sum
-sum-one f g zero k l e h = absurd (omega arith)
-sum-one f g (suc n) k l e h =
-    split (eqb n k)
-    (λ q.
-    let d : n ≡ k = eqb-true n k q in
-    let a : sum g n ≡ sum f n = sum-same g f n (λ i b. h i (omega arith) (λ c. omega (arith, c, d))) in
-    let b : g n ≡ f n + 1 = ap g d ∙ e ∙ ap (λ j. f j + 1) (sym d) in
-    omega (arith, a, b))
-    (λ q.
-    let d : n ≢ k = eqb-ne q in
-    let a : sum g n ≡ sum f n + 1 = sum-one f g n k (omega (arith, d)) e (λ i b c. h i (omega arith) c) in
-    let b : g n ≡ f n = h n (omega arith) d in
-    omega (arith, a, b))
-
--- ---- the pairs below m, counted
-unfoldable pub count : List Pair → ℕ → ℕ
-count l m = sum (partners l m) m
-
--- two numbers that differ, both below m
-abbrev pub proper : ℕ → Pair → Bool
-proper m x = and (both m x) (not (eqb (x .left) (x .right)))
+use Rattle.paper.specs.Frames.{Pair, pair, same-pair, new-pairs}
+use Rattle.paper.proofs.Tests.{split, clash}
+use Rattle.paper.proofs.Names.{any-append}
+use Rattle.sight.specs.Sums.{one}
+use Rattle.sight.proofs.Sums.{sum-same, sum-one}
+use Rattle.disjoint.specs.Found.{both, proper, meets, rising, partners, count}
+use Rattle.disjoint.proofs.New.{same-cases, same-straight, same-crossed, any-same, any-again}
+use Rattle.disjoint.proofs.Bools.{or-false, and-left, and-right}
 
 -- the same test at each pair: the same count
 count-same :
@@ -55,7 +25,7 @@ count-same :
 unfolding count partners
 count-same l k m h = sum-same _ _ m (λ u a. sum-same _ _ m (λ v b. ap (λ t. one (and (ltb u v) t)) (h u v)))
 
-meets-last : (l : List Pair) (x : Pair) (u v : ℕ) → meets (l ++ (x ∷ [])) u v ≡ or (meets l u v) (same-pair (pair u v) x)
+pub meets-last : (l : List Pair) (x : Pair) (u v : ℕ) → meets (l ++ (x ∷ [])) u v ≡ or (meets l u v) (same-pair (pair u v) x)
 unfolding meets any
 meets-last l x u v =
     any-append (same-pair (pair u v)) l (x ∷ [])
@@ -68,10 +38,6 @@ meets-last l x u v =
 meets-any : (l : List Pair) (u v : ℕ) → meets l u v ≡ any (same-pair (pair u v)) l
 unfolding meets
 meets-any l u v = refl
-
-or-false : (b : Bool) → or b false ≡ b
-or-false true = refl
-or-false false = refl
 
 -- a pair a, b with a below b, new to l: one more
 count-rising :
@@ -113,22 +79,14 @@ count-more l x m e new =
     (λ u v k r. same-cases (pair u v) x r (λ a b. absurd (omega (arith, a, b))) (λ a b. (a, b)))
     (same-crossed (pair (x .right) (x .left)) x refl refl) new)
   where
-    first : (a b : Bool) → and a b ≡ true → a ≡ true
-    first true b q = refl
-    first false b q = q
-
-    second : (a b : Bool) → and a b ≡ true → b ≡ true
-    second true b q = q
-    second false b q = absurd (clash (sym q))
-
     below-left : (x : Pair) (m : ℕ) → proper m x ≡ true → x .left < m
-    below-left x m q = ltb-true _ _ (first (ltb (x .left) m) (ltb (x .right) m) (first (both m x) (not (eqb (x .left) (x .right))) q))
+    below-left x m q = ltb-true _ _ (and-left (ltb (x .left) m) (ltb (x .right) m) (and-left (both m x) (not (eqb (x .left) (x .right))) q))
 
     below-right : (x : Pair) (m : ℕ) → proper m x ≡ true → x .right < m
-    below-right x m q = ltb-true _ _ (second (ltb (x .left) m) (ltb (x .right) m) (first (both m x) (not (eqb (x .left) (x .right))) q))
+    below-right x m q = ltb-true _ _ (and-right (ltb (x .left) m) (ltb (x .right) m) (and-left (both m x) (not (eqb (x .left) (x .right))) q))
 
     differs : (x : Pair) (m : ℕ) → proper m x ≡ true → x .left ≢ x .right
-    differs x m q d = clash (sym (second (both m x) (not (eqb (x .left) (x .right))) q) ∙ ap not (eq-eqb _ _ d))
+    differs x m q d = clash (sym (and-right (both m x) (not (eqb (x .left) (x .right))) q) ∙ ap not (eq-eqb _ _ d))
 
 -- a pair that is there already: as many
 count-again :

@@ -1,2 +1,14 @@
+pub mod Bools
 pub mod New
 pub mod Count
+pub mod Mandatory
+pub mod Apart
+pub mod Words
+pub mod Marks
+pub mod Walks
+pub mod Square
+pub mod Drawn
+pub mod Draws
+pub mod Refined
+pub mod Once
+pub mod Written

@@ -2,35 +2,17 @@
 -- Assumes nothing.
 use mathlib.Core.Path.{_≡_, refl, sym, ap, _∙_}
 use mathlib.Core.Bool.{Bool, true, false}
-use mathlib.Core.List.{List, [], _∷_, _++_, map, append-assoc, append-nil}
-use Prim.Native.Nat.{ℕ, _+_, _<_}
-use lib.Dec.{eqb, ltb}
+use mathlib.Core.List.{List, [], _∷_, _++_, append-assoc, append-nil}
+use lib.Dec.{eqb}
 use borrow.Author.Tests.{eqb-true, eq-eqb}
-use Rattle.paper.specs.Base.{choose, and, or, any, keep, gather}
-use Rattle.paper.specs.Frames.{Pair, pair, pairs-in, same-pair, new-pair, new-pairs}
+use Rattle.paper.specs.Base.{choose, and, any, keep}
+use Rattle.paper.specs.Frames.{Pair, same-pair, new-pair, new-pairs}
 use Rattle.paper.proofs.Tests.{split, clash}
 use Rattle.paper.proofs.Lists.{keep-append}
-use Rattle.disjoint.specs.Found.{both, meets}
-
--- ---- any over append
-pub any-append : {A : Type 0} (p : A → Bool) (l m : List A) → any p (l ++ m) ≡ or (any p l) (any p m)
-unfolding any
-any-append p [] m = refl
-any-append p (x ∷ l) m = split (p x) (λ e. rw e) (λ e. rw e (any-append p l m))
+use Rattle.paper.proofs.Names.{any-append}
+use Rattle.disjoint.proofs.Bools.{or-right, and-left, and-right}
 
 -- ---- the same pair, in either orientation
-or-right : (a b : Bool) → b ≡ true → or a b ≡ true
-or-right true b e = refl
-or-right false b e = e
-
-and-left : (a b : Bool) → and a b ≡ true → a ≡ true
-and-left true b e = refl
-and-left false b e = e
-
-and-right : (a b : Bool) → and a b ≡ true → b ≡ true
-and-right true b e = e
-and-right false b e = absurd (clash (sym e))
-
 -- two tests that hold in the same cases are one
 pub both-ways : (a b : Bool) → (a ≡ true → b ≡ true) → (b ≡ true → a ≡ true) → a ≡ b
 both-ways true b f g = sym (f refl)
@@ -120,7 +102,7 @@ new-last (y ∷ s) l x =
 pub record Either (p : Pair → Bool) : Type 0 where
   pub turned : (x y : Pair) → same-pair x y ≡ true → p x ≡ p y
 
-any-kept :
+pub any-kept :
     (p : Pair → Bool) → Either p → (x : Pair) (l : List Pair) → p x ≡ true
     → any (same-pair x) (keep p l) ≡ any (same-pair x) l
 unfolding any keep

@@ -1,10 +1,11 @@
 -- The pairs of numbers that the active `$d` name, in the order in which they are found, mandatory or not.
 -- `vs` are the variables of a frame, the mandatory ones first; `d` the names of each `$d`.
-use mathlib.Core.Bool.{Bool, true, false}
-use mathlib.Core.List.{List, [], _∷_, _++_, map}
-use Prim.Native.Nat.{ℕ, zero, suc, _+_}
-use lib.Dec.{ltb}
-use Rattle.paper.specs.Base.{choose, and, any, gather}
+use mathlib.Core.Bool.{Bool}
+use mathlib.Core.List.{List, map}
+use Prim.Native.Nat.{ℕ}
+use lib.Dec.{eqb, ltb}
+use Rattle.paper.specs.Base.{and, not, any, gather}
+use Rattle.sight.specs.Sums.{sum, one}
 use Rattle.paper.specs.Frames.{index, Pair, pair, pairs-in, same-pair}
 
 -- the pairs of one `$d`
@@ -18,18 +19,17 @@ found vs d = gather (found-in vs) d
 abbrev pub both : ℕ → Pair → Bool
 both m p = and (ltb (p .left) m) (ltb (p .right) m)
 
+-- two numbers that differ, both below m
+abbrev pub proper : ℕ → Pair → Bool
+proper m x = and (both m x) (not (eqb (x .left) (x .right)))
+
 -- whether a pair is among some pairs, in either orientation
 unfoldable pub meets : List Pair → ℕ → ℕ → Bool
 meets l x y = any (same-pair (pair x y)) l
 
--- f 0 + f 1 + ..., n of them
-unfoldable pub sum : (ℕ → ℕ) → ℕ → ℕ
-sum f zero = 0
-sum f (suc n) = sum f n + f n
-
-abbrev pub one : Bool → ℕ
-one true = 1
-one false = 0
+-- whether a number is among some
+unfoldable pub has : ℕ → List ℕ → Bool
+has i l = any (eqb i) l
 
 -- whether u is below v and the two are a pair of l
 abbrev pub rising : List Pair → ℕ → ℕ → Bool
@@ -38,3 +38,7 @@ rising l u v = and (ltb u v) (meets l u v)
 -- how many numbers v below m are above u and a pair with it
 unfoldable pub partners : List Pair → ℕ → ℕ → ℕ
 partners l m u = sum (λ v. one (rising l u v)) m
+
+-- the pairs below m, counted
+unfoldable pub count : List Pair → ℕ → ℕ
+count l m = sum (partners l m) m

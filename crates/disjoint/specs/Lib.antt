@@ -1,1 +1,5 @@
 pub mod Found
+pub mod Words
+pub mod Marks
+pub mod Drawn
+pub mod Written

@@ -1,14 +1,14 @@
 -- What holds of the statements of every text that is read: order, nesting of ends, shapes, counts.
 -- `t` is the text, `l` its statements.
 use mathlib.Core.Path.{_≡_}
-use mathlib.Core.Bool.{Bool, true, false}
+use mathlib.Core.Bool.{true, false}
 use mathlib.Core.List.{List, []}
 use Prim.Native.Nat.{ℕ, _+_, _*_, _<_, _≤_}
 use lib.ListN.{length}
 use Rattle.paper.specs.Base.{all}
 use Rattle.paper.specs.Bytes.{label-byte, math-byte}
 use Rattle.paper.specs.Tokens.{tokens}
-use Rattle.paper.specs.Statements.{Kind, $d, $f, labelled, Statement, none-end}
+use Rattle.paper.specs.Statements.{$d, $f, labelled, Statement, none-end}
 use Rattle.paper.specs.Names.{labels}
 use Rattle.paper.specs.Checks.{token}
 use Rattle.reader.specs.Rows.{stmt, before}

@@ -1,12 +1,11 @@
 -- Atoms: the distinct labels and math tokens of the statements, numbered by first sight.
 -- Two tokens have one atom exactly when their bytes are equal.
-use mathlib.Core.Bool.{Bool}
-use mathlib.Core.List.{List, [], _∷_, _++_, map}
+use mathlib.Core.List.{List, [], _++_, map}
 use Prim.Native.Nat.{ℕ}
-use lib.ListN.{length, getD, take}
-use Rattle.paper.specs.Base.{choose, gather}
+use lib.ListN.{getD}
+use Rattle.paper.specs.Base.{gather}
 use Rattle.paper.specs.Tokens.{Token}
-use Rattle.paper.specs.Statements.{labelled, Statement}
+use Rattle.paper.specs.Statements.{Statement}
 use Rattle.paper.specs.Names.{bearer}
 use Rattle.paper.specs.Frames.{sights, index}
 

@@ -1,2 +1,6 @@
 pub mod Atoms
 pub mod Named
+pub mod Kept
+pub mod Table
+pub mod Naming
+pub mod Lookups

@@ -1,7 +1,7 @@
 -- What the words of the work area say once every statement is named.
 -- `t` is the text, `w` the words, `n` is N + 1, `l` the statements.
 use mathlib.Core.Path.{_≡_}
-use mathlib.Core.Bool.{Bool, true, false}
+use mathlib.Core.Bool.{true}
 use mathlib.Core.List.{List}
 use mathlib.Core.Option.{Option, none, some}
 use Prim.Native.Nat.{ℕ, _+_, _-_, _*_, _<_, _≤_}

@@ -4,13 +4,12 @@ use mathlib.Core.Path.{_≡_, refl, sym, ap, _∙_}
 use mathlib.Core.Bool.{Bool, true, false}
 use mathlib.Core.List.{List, [], _∷_, _++_, append-assoc, append-nil}
 use Prim.Native.Nat.{ℕ, zero, suc, _+_, _<_, _≤_}
-use native.Mathlib.Nat.{le-of-suc-le-suc, not-suc-le-zero}
 use native.Mathlib.Omega.{arith}
-use lib.Dec.{eqb, ltb}
+use lib.Dec.{ltb}
 use lib.ListN.{length, getD, length-append, List·getD-append}
 use lib.Seq.{getD-append-add}
-use borrow.Author.Tests.{eq-eqb, eqb-true, ltb-true, ltb-false}
-use Rattle.paper.specs.Base.{choose, or, sameb, any}
+use borrow.Author.Tests.{ltb-true, ltb-false}
+use Rattle.paper.specs.Base.{or, sameb, any}
 use Rattle.paper.specs.Frames.{member, see, sights, index}
 use Rattle.paper.proofs.Tests.{split, clash, same-refl, same-eq, eq-same, ne-same}
 
@@ -67,6 +66,9 @@ index-at x [] e = absurd (clash (sym e))
 index-at x (y ∷ l) e =
     split (sameb x y) (λ q. let z : sameb y x ≡ true = same-sym y x ∙ q in rw z (sym (same-eq x y q)))
     (λ q. let z : sameb y x ≡ false = same-sym y x ∙ q in rw z (index-at x l (rw q at e)))
+
+pub index-none : (x : List ℕ) (l : List (List ℕ)) → member x l ≡ false → length l ≤ index l x
+index-none x l e = omega (arith, index-past x l [] e, ap (λ m. index m x) (append-nil l))
 
 pub member-at : (l : List (List ℕ)) (a : ℕ) → a < length l → member (getD l a []) l ≡ true
 unfolding any

@@ -1,14 +1,14 @@
 -- Bytes with the last one raised: the bytes before it, and it; and why it can be raised.
 -- For the writer of such bytes and its callers.
-use mathlib.Core.Path.{_≡_, refl, sym, ap, _∙_}
-use mathlib.Core.Bool.{Bool, true, false}
+use mathlib.Core.Path.{_≡_, refl, sym, ap}
+use mathlib.Core.Bool.{true}
 use mathlib.Core.List.{List, [], _∷_, _++_}
-use Prim.Native.Nat.{ℕ, zero, suc, _+_, _-_, _<_, _≤_}
+use Prim.Native.Nat.{ℕ, zero, suc, _+_, _-_, _<_}
 use native.Mathlib.Omega.{arith}
 use lib.Dec.{leb}
 use lib.ListN.{length, getD, take}
 use borrow.Author.Tests.{leb-true}
-use Rattle.paper.specs.Base.{choose, all, and, within}
+use Rattle.paper.specs.Base.{all, and}
 use Rattle.paper.specs.Bytes.{printable, math-byte}
 use Rattle.paper.specs.Frames.{raised}
 use Rattle.paper.proofs.Tests.{split, clash}
@@ -25,6 +25,12 @@ raised-last (b ∷ []) zero e = refl
 raised-last (b ∷ []) (suc k) e = absurd (omega arith)
 raised-last (b ∷ c ∷ l) zero e = absurd (omega arith)
 raised-last (b ∷ c ∷ l) (suc k) e = ap (λ r. b ∷ r) (raised-last (c ∷ l) k (omega arith))
+
+pub length-raised : (l : List ℕ) → length (raised l) ≡ length l
+unfolding raised
+length-raised [] = refl
+length-raised (b ∷ []) = refl
+length-raised (b ∷ c ∷ l) = ap suc (length-raised (c ∷ l))
 
 low : (b : ℕ) → math-byte b ≡ true → b < 128
 unfolding math-byte printable

@@ -9,6 +9,7 @@ use native.Mathlib.Numerals.{add-one}
 use lib.ListN.{length, getD, take, set, length-set, length-append}
 use lib.Seq.{take-suc, take-length}
 use Rattle.paper.specs.Answer.{laid}
+use Rattle.paper.specs.Records.{u16, u32, framed}
 use Rattle.stream.specs.Wrote.{Wrote}
 use Rattle.stream.proofs.Laid.{laid-none, laid-one, laid-append}
 
@@ -55,6 +56,12 @@ wrote-more {l} {m} {at} b i w h k =
 
 pub wrote-all : {l m : List ℕ} {at : ℕ} (b : List ℕ) (i : ℕ) → Wrote l m at (at + i) (take i b) → i ≡ length b → Wrote l m at (at + i) b
 wrote-all b i w e = wrote-as w (rw (e, take-length))
+
+-- a record: its length, and then its kind and its payload
+pub wrote-framed : {l m o : List ℕ} {at p r n : ℕ} (k : ℕ) (b : List ℕ) → Wrote l m at p (u32 n) → Wrote m o p r (u16 k ++ b) → n ≡ 2 + length b
+    → Wrote l o at r (framed k b)
+unfolding framed
+wrote-framed k b x y e = wrote-then (wrote-as x (ap u32 (sym e))) y
 
 -- what a caller gets: a buffer that all the bytes fit into, and a part of no bytes that only measures
 pub wrote-fits : {l m : List ℕ} {r : ℕ} {b : List ℕ} → Wrote l m 0 r b → length b ≤ length l → m ≡ laid l 0 b

@@ -30,8 +30,10 @@ pub fn put_u16(out: &mut [u8], at: usize, n: u64) -> usize
     if out.len() < end {
         return end;
     }
-    out[at] = (n % 256) as u8;
-    out[at + 1] = (n / 256 % 256) as u8;
+    let low = n % 256;
+    let high = n / 256 % 256;
+    out[at] = low as u8;
+    out[at + 1] = high as u8;
     end
 }
 
@@ -92,6 +94,15 @@ pub fn put_raised(out: &mut [u8], at: usize, bytes: &[u8]) -> usize
     let last = n - 1;
     let a = put_bytes(out, at, &bytes[..last]);
     put_byte(out, a, bytes[last] + 128)
+}
+
+/// A string of bytes, the last one with 128 added.
+pub fn put_raised_string(out: &mut [u8], at: usize, bytes: &[u8]) -> usize
+    requires { ⌜ (at + 4 + length (now bytes) < 2 ^ 64) × (getD (now bytes) (length (now bytes) - 1) 0 < 128) ⌝ }
+    ensures { λ r. ⌜ (r ≡ at + 4 + length (now (bytes .entry))) × Wrote (now (out .entry)) (now (out .exit)) at r (string (raised (now (bytes .entry)))) ⌝ }
+{
+    let a = put_u32(out, at, bytes.len() as u64);
+    put_raised(out, a, bytes)
 }
 
 /// So many zeros.

@@ -1,7 +1,7 @@
-use mathlib.Core.Path.{_≡_, refl}
+use mathlib.Core.Path.{refl}
 use Prim.Native.Nat.{ℕ, _+_, _-_, _<_, _≤_}
 use native.Mathlib.Omega.{arith}
-use lib.ListN.{length, take, replicate, length-replicate, getD-replicate}
+use lib.ListN.{take, replicate, length-replicate, getD-replicate}
 use Rattle.stream.specs.Wrote.{Wrote}
 use Rattle.stream.proofs.Wrote.{wrote-none, wrote-skip, wrote-more, wrote-all, wrote-to}
 use borrow.Author.Needs.{needs}

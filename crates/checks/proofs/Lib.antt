@@ -1,0 +1,7 @@
+pub mod Told
+pub mod Found
+pub mod Ones
+pub mod Comments
+pub mod Each
+pub mod OverRows
+pub mod OverPart

@@ -1,0 +1,26 @@
+use mathlib.Core.Path.{_≡_, sym, ap, _∙_, refl}
+use native.Mathlib.Omega.{arith}
+use Prim.Native.Nat.{_+_, _-_, _*_, _<_, _≤_}
+use Rattle.checks.proofs.Ones.{clash-one}
+use borrow.Author.Needs.{needs}
+use Rattle.checks.proofs.tokens.check_clash.Statement.{statement}
+use Rattle.checks.proofs.tokens.check_clash.Tie as tie
+use Rattle.checks.proofs.tokens.check_clash.Reads as reads
+use Rattle.checks.proofs.tokens.check_clash.Lts as lts
+use Rattle.checks.proofs.put.put_clash.Reads as put-clash-reads
+use Rattle.slots.proofs.look.label_owner.Reads as label-owner-reads
+
+label-owner-requires : tie.Need-label-owner-requires
+label-owner-requires c κs = search needs
+
+put-clash-requires : tie.Need-put-clash-requires
+put-clash-requires c κs = search needs
+
+same-length : tie.Need-same-length
+same-length c = search needs
+
+returns : tie.Need-returns
+returns c = clash-one (c .before .before .before .before .label-owner .ensures) (c .before .before .put-clash .ensures)
+
+pub check-clash-spec : {M : Type 1} → statement M
+check-clash-spec = tie.close (tie.spec label-owner-requires put-clash-requires same-length returns)

@@ -1,0 +1,98 @@
+use mathlib.Core.Path.{_≡_, sym, ap, _∙_, refl}
+use native.Mathlib.Omega.{arith}
+use Prim.Native.Nat.{_+_, _-_, _*_, _<_, _≤_}
+use lib.ListN.{length}
+use Rattle.slots.proofs.Kept.{room-kept}
+use Rattle.checks.specs.Visible.{visible-from}
+use Rattle.checks.proofs.OverRows.{can-token}
+use Rattle.checks.proofs.OverPart.{take-one, left-less, InvNested, nested-start, nested-step, nested-end}
+use borrow.Author.Needs.{needs}
+use Rattle.checks.proofs.walks.walk_nested.Statement.{statement}
+use Rattle.checks.proofs.walks.walk_nested.Tie as tie
+use Rattle.checks.proofs.walks.walk_nested.Reads as reads
+use Rattle.checks.proofs.walks.walk_nested.Lts as lts
+use Rattle.checks.proofs.tokens.check_nested.Reads as check-nested-reads
+use Rattle.checks.proofs.visible.next_visible.Reads as next-visible-reads
+use Rattle.slots.proofs.cells.of_math.Reads as of-math-reads
+use Rattle.token.proofs.class.table.Reads as table-reads
+
+abbrev Inv-loop : tie.InvT-loop
+Inv-loop part work₀ n diags₀ at first from end s classes p₀ i₀ c₀ work diags p i c = InvNested work₀ work part diags₀ diags n at p first from end (s .0) c i
+
+abbrev μ-loop : tie.MeasureT-loop
+μ-loop part work₀ n diags₀ at first from end s classes p₀ i₀ c₀ work diags p i c = length (visible-from part c)
+
+table-requires : tie.Need-table-requires Inv-loop μ-loop
+table-requires c κs = search needs
+
+loop-holds : tie.Need-loop-holds Inv-loop μ-loop
+loop-holds c = nested-start
+
+next-visible-requires : tie.Need-next-visible-requires Inv-loop μ-loop
+next-visible-requires c κs = search needs
+
+enum-known-start : tie.Need-enum-known-start Inv-loop μ-loop
+enum-known-start c = search needs
+
+enum-told : tie.Need-enum-told Inv-loop μ-loop
+enum-told c = search needs
+
+same-length : tie.Need-same-length Inv-loop μ-loop
+same-length c = c .before .before .before .before .loop .inv .kept .len
+
+same-length-2 : tie.Need-same-length-2 Inv-loop μ-loop
+same-length-2 c = c .before .before .before .before .loop .inv .len
+
+returns : tie.Need-returns Inv-loop μ-loop
+returns c = nested-end (rw (c .enum-told .given .1) at (c .before .before .next-visible .ensures)) (c .before .before .before .before .loop .inv)
+
+add-of-math : tie.Need-add-of-math Inv-loop μ-loop
+add-of-math c = let x = take-one (c .before .before .before .before .before .before .loop .inv .left) (rw (c .before .before .start .given .1) at (c .before .before .before .before .next-visible .ensures)) in omega (arith, x .inside, c .before .before .before .before .before .before .before .before .before .before .before .pre .walk .atoms .rows, c .before .before .before .before .before .before .before .before .before .before .before .pre .walk .room .small)
+
+of-math-requires : tie.Need-of-math-requires Inv-loop μ-loop
+of-math-requires c κs = let x = take-one (c .before .before .before .before .before .before .loop .inv .left) (rw (c .before .before .start .given .1) at (c .before .before .before .before .next-visible .ensures)) in (room-kept (c .before .before .before .before .before .before .loop .inv .kept) (c .before .before .before .before .before .before .before .before .before .before .before .pre .walk .room), omega (arith, x .inside, c .before .before .before .before .before .before .before .before .before .before .before .pre .walk .atoms .rows))
+
+cast-check-nested : tie.Need-cast-check-nested Inv-loop μ-loop
+cast-check-nested c = let f = (rw (c .before .before .before .before .before .start .given .1) at (c .before .before .before .before .before .before .before .next-visible .ensures)) in omega (arith, f .some, f .within, c .before .before .before .before .before .before .before .before .before .before .before .before .before .before .pre .short)
+
+add-check-nested : tie.Need-add-check-nested Inv-loop μ-loop
+add-check-nested c = let f = (rw (c .before .before .before .before .before .start .given .1) at (c .before .before .before .before .before .before .before .next-visible .ensures)) in omega (arith, f .some, f .within, c .before .before .before .before .before .before .before .before .before .before .before .before .before .before .pre .short)
+
+cast-t29 : tie.Need-cast-t29 Inv-loop μ-loop
+cast-t29 c = let x = take-one (c .before .before .before .before .before .before .before .before .before .loop .inv .left) (rw (c .before .before .before .before .before .start .given .1) at (c .before .before .before .before .before .before .before .next-visible .ensures)) in omega (arith, x .inside, c .before .before .before .before .before .before .before .before .before .before .before .before .before .before .pre .walk .atoms .rows, c .before .before .before .before .before .before .before .before .before .before .before .before .before .before .pre .walk .room .small)
+
+check-nested-requires : tie.Need-check-nested-requires Inv-loop μ-loop
+check-nested-requires c κs = let x = take-one (c .before .before .before .before .before .before .before .before .before .loop .inv .left) (rw (c .before .before .before .before .before .start .given .1) at (c .before .before .before .before .before .before .before .next-visible .ensures)) in can-token (c .before .before .before .before .before .before .before .before .before .before .before .before .before .before .pre .walk) (c .before .before .before .before .before .before .before .before .before .loop .inv .kept) (omega (arith, c .before .before .before .before .before .before .before .before .before .loop .inv .few)) (x .inside) (c .before .before .of-math .ensures)
+
+add-i : tie.Need-add-i Inv-loop μ-loop
+add-i c = let x = take-one (c .before .before .before .before .before .before .before .before .before .before .before .before .before .before .loop .inv .left) (rw (c .before .before .before .before .before .before .before .before .before .before .start .given .1) at (c .before .before .before .before .before .before .before .before .before .before .before .before .next-visible .ensures)) in omega (arith, x .inside, c .before .before .before .before .before .before .before .before .before .before .before .before .before .before .before .before .before .before .before .pre .walk .atoms .rows, c .before .before .before .before .before .before .before .before .before .before .before .before .before .before .before .before .before .before .before .pre .walk .room .small)
+
+loop-less : tie.Need-loop-less Inv-loop μ-loop
+loop-less c = left-less (rw (c .before .before .before .before .before .before .before .before .before .before .start .given .1) at (c .before .before .before .before .before .before .before .before .before .before .before .before .next-visible .ensures))
+
+loop-again : tie.Need-loop-again Inv-loop μ-loop
+loop-again c = nested-step (rw (c .before .before .before .before .before .before .before .before .before .before .start .given .1) at (c .before .before .before .before .before .before .before .before .before .before .before .before .next-visible .ensures)) (c .before .before .before .before .before .before .before .of-math .ensures) (c .before .before .before .before .check-nested .ensures) (c .before .before .before .before .check-nested .kept .1 .1 .0) (c .before .before .before .before .before .before .before .before .before .before .before .before .before .before .loop .inv)
+
+pub walk-nested-spec : {M : Type 1} → statement M
+walk-nested-spec =
+    tie.close
+    (tie.spec
+    Inv-loop
+    μ-loop
+    table-requires
+    loop-holds
+    next-visible-requires
+    enum-known-start
+    enum-told
+    same-length
+    same-length-2
+    returns
+    add-of-math
+    of-math-requires
+    cast-check-nested
+    add-check-nested
+    cast-t29
+    check-nested-requires
+    add-i
+    loop-less
+    loop-again)

@@ -1,0 +1,94 @@
+use mathlib.Core.Path.{_≡_, sym, ap, _∙_, refl}
+use native.Mathlib.Omega.{arith}
+use Prim.Native.Nat.{_+_, _-_, _*_, _<_, _≤_}
+use lib.ListN.{length}
+use Rattle.slots.proofs.Kept.{kept-none}
+use Rattle.checks.specs.Visible.{visible-from}
+use Rattle.checks.proofs.OverRows.{can-token}
+use Rattle.checks.proofs.OverPart.{take-one, left-less, InvOuter, outer-start, outer-step, outer-end}
+use borrow.Author.Needs.{needs}
+use Rattle.checks.proofs.walks.walk_outer.Statement.{statement}
+use Rattle.checks.proofs.walks.walk_outer.Tie as tie
+use Rattle.checks.proofs.walks.walk_outer.Reads as reads
+use Rattle.checks.proofs.walks.walk_outer.Lts as lts
+use Rattle.checks.proofs.tokens.check_outer.Reads as check-outer-reads
+use Rattle.checks.proofs.visible.next_visible.Reads as next-visible-reads
+use Rattle.slots.proofs.cells.of_math.Reads as of-math-reads
+use Rattle.token.proofs.class.table.Reads as table-reads
+
+abbrev Inv-loop : tie.InvT-loop
+Inv-loop part work n diags₀ at first from s classes p₀ i₀ c₀ diags p i c = InvOuter work part diags₀ diags n at p first from (s .0) c i
+
+abbrev μ-loop : tie.MeasureT-loop
+μ-loop part work n diags₀ at first from s classes p₀ i₀ c₀ diags p i c = length (visible-from part c)
+
+table-requires : tie.Need-table-requires Inv-loop μ-loop
+table-requires c κs = search needs
+
+loop-holds : tie.Need-loop-holds Inv-loop μ-loop
+loop-holds c = outer-start
+
+next-visible-requires : tie.Need-next-visible-requires Inv-loop μ-loop
+next-visible-requires c κs = search needs
+
+enum-known-start : tie.Need-enum-known-start Inv-loop μ-loop
+enum-known-start c = search needs
+
+enum-told : tie.Need-enum-told Inv-loop μ-loop
+enum-told c = search needs
+
+same-length : tie.Need-same-length Inv-loop μ-loop
+same-length c = c .before .before .before .before .loop .inv .len
+
+returns : tie.Need-returns Inv-loop μ-loop
+returns c = outer-end (rw (c .enum-told .given .1) at (c .before .before .next-visible .ensures)) (c .before .before .before .before .loop .inv)
+
+add-of-math : tie.Need-add-of-math Inv-loop μ-loop
+add-of-math c = let x = take-one (c .before .before .before .before .before .loop .inv .left) (rw (c .before .start .given .1) at (c .before .before .before .next-visible .ensures)) in omega (arith, x .inside, c .before .before .before .before .before .before .before .before .before .before .pre .walk .atoms .rows, c .before .before .before .before .before .before .before .before .before .before .pre .walk .room .small)
+
+of-math-requires : tie.Need-of-math-requires Inv-loop μ-loop
+of-math-requires c κs = let x = take-one (c .before .before .before .before .before .loop .inv .left) (rw (c .before .start .given .1) at (c .before .before .before .next-visible .ensures)) in (c .before .before .before .before .before .before .before .before .before .before .pre .walk .room, omega (arith, x .inside, c .before .before .before .before .before .before .before .before .before .before .pre .walk .atoms .rows))
+
+cast-check-outer : tie.Need-cast-check-outer Inv-loop μ-loop
+cast-check-outer c = let f = (rw (c .before .before .before .start .given .1) at (c .before .before .before .before .before .next-visible .ensures)) in omega (arith, f .some, f .within, c .before .before .before .before .before .before .before .before .before .before .before .before .pre .short)
+
+add-check-outer : tie.Need-add-check-outer Inv-loop μ-loop
+add-check-outer c = let f = (rw (c .before .before .before .start .given .1) at (c .before .before .before .before .before .next-visible .ensures)) in omega (arith, f .some, f .within, c .before .before .before .before .before .before .before .before .before .before .before .before .pre .short)
+
+cast-t24 : tie.Need-cast-t24 Inv-loop μ-loop
+cast-t24 c = let x = take-one (c .before .before .before .before .before .before .before .loop .inv .left) (rw (c .before .before .before .start .given .1) at (c .before .before .before .before .before .next-visible .ensures)) in omega (arith, x .inside, c .before .before .before .before .before .before .before .before .before .before .before .before .pre .walk .atoms .rows, c .before .before .before .before .before .before .before .before .before .before .before .before .pre .walk .room .small)
+
+check-outer-requires : tie.Need-check-outer-requires Inv-loop μ-loop
+check-outer-requires c κs = let x = take-one (c .before .before .before .before .before .before .before .loop .inv .left) (rw (c .before .before .before .start .given .1) at (c .before .before .before .before .before .next-visible .ensures)) in can-token (c .before .before .before .before .before .before .before .before .before .before .before .before .pre .walk) (kept-none _ 12 12 2 7 _) (omega (arith, c .before .before .before .before .before .before .before .loop .inv .few)) (x .inside) (c .before .of-math .ensures)
+
+add-i : tie.Need-add-i Inv-loop μ-loop
+add-i c = let x = take-one (c .before .before .before .before .before .before .before .before .before .before .loop .inv .left) (rw (c .before .before .before .before .before .before .start .given .1) at (c .before .before .before .before .before .before .before .before .next-visible .ensures)) in omega (arith, x .inside, c .before .before .before .before .before .before .before .before .before .before .before .before .before .before .before .pre .walk .atoms .rows, c .before .before .before .before .before .before .before .before .before .before .before .before .before .before .before .pre .walk .room .small)
+
+loop-less : tie.Need-loop-less Inv-loop μ-loop
+loop-less c = left-less (rw (c .before .before .before .before .before .before .start .given .1) at (c .before .before .before .before .before .before .before .before .next-visible .ensures))
+
+loop-again : tie.Need-loop-again Inv-loop μ-loop
+loop-again c = outer-step (rw (c .before .before .before .before .before .before .start .given .1) at (c .before .before .before .before .before .before .before .before .next-visible .ensures)) (c .before .before .before .before .of-math .ensures) (c .before .before .check-outer .ensures) (c .before .before .check-outer .kept .1 .1 .0) (c .before .before .before .before .before .before .before .before .before .before .loop .inv)
+
+pub walk-outer-spec : {M : Type 1} → statement M
+walk-outer-spec =
+    tie.close
+    (tie.spec
+    Inv-loop
+    μ-loop
+    table-requires
+    loop-holds
+    next-visible-requires
+    enum-known-start
+    enum-told
+    same-length
+    returns
+    add-of-math
+    of-math-requires
+    cast-check-outer
+    add-check-outer
+    cast-t24
+    check-outer-requires
+    add-i
+    loop-less
+    loop-again)

@@ -1,0 +1,4 @@
+pub mod Found
+pub mod Tokens
+pub mod Visible
+pub mod Walks

@@ -1,0 +1,264 @@
+-- One pair drawn: its bits are read and set in the rows, and its bytes are written before them.
+-- Assumes nothing.
+use mathlib.Core.Path.{_≡_, refl, sym, ap, _∙_}
+use mathlib.Core.Logic.{_≢_}
+use mathlib.Core.Bool.{Bool, true, false}
+use mathlib.Core.List.{List, [], _∷_, _++_, append-assoc, append-nil}
+use Prim.Native.Nat.{ℕ, _+_, _-_, _*_, _<_, _≤_}
+use native.Mathlib.Omega.{arith}
+use lib.Dec.{eqb, ltb}
+use lib.ListN.{length, getD, set, length-set, take, drop, length-append, length-drop, take-append-drop}
+use lib.Seq.{take-at, drop-at, drop-drop, length-take-le}
+use borrow.Author.Tests.{eq-eqb, ne-eqb, ltb-true}
+use Rattle.paper.specs.Base.{and, not, all, gather}
+use Rattle.paper.specs.Answer.{laid}
+use Rattle.paper.specs.Frames.{Pair, pair}
+use Rattle.paper.specs.Records.{pair-bytes, row-bytes, u16}
+use Rattle.paper.proofs.Tests.{split, clash}
+use Rattle.paper.proofs.Lists.{gather-append}
+use Rattle.stream.specs.Bits.{bit-at, with-bit}
+use Rattle.stream.specs.Wrote.{Wrote}
+use Rattle.stream.proofs.Laid.{length-laid}
+use Rattle.stream.proofs.Wrote.{wrote-then, wrote-as, wrote-to}
+use Rattle.stream.proofs.Records.{length-u16}
+use Rattle.stream.proofs.Rows.{row-width, Wide, lit-up, wide-lit}
+use Rattle.stream.proofs.Setting.{wrote-row-bit, wrote-row-set}
+use Rattle.disjoint.specs.declared.draw.Grid.{Grid}
+use Rattle.disjoint.specs.Found.{both, proper, meets}
+use Rattle.disjoint.specs.Drawn.{once, square, Drawing}
+use Rattle.disjoint.proofs.Square.{length-square, wide-square, bit-square, square-more, square-again, once-again, once-out, once-in, once-prefix, length-pairs}
+use Rattle.disjoint.proofs.Bools.{and-left, and-right}
+
+-- ---- bytes laid before others that are laid
+laid-is :
+    (l a x z b : List ℕ) (i : ℕ) → l ≡ a ++ (x ++ z) → length a ≡ i → length x ≡ length b → laid l i b ≡ a ++ (b ++ z)
+unfolding laid
+laid-is l a x z b i e h k =
+    let d : drop (i + length b) (a ++ (x ++ z)) ≡ z =
+    sym (drop-drop (length b) i (a ++ (x ++ z)))
+    ∙ ap (drop (length b)) (drop-at a (x ++ z) i h)
+    ∙ drop-at x z (length b) k in
+    rw (e, take-at a (x ++ z) i h, d)
+
+module _ (l a x y d z b c : List ℕ) (i p : ℕ) (e : l ≡ a ++ (x ++ (y ++ (d ++ z)))) (h : length a ≡ i) (j : length x ≡ length b) (k : length a + (length x + length y) ≡ p) (o : length d ≡ length c) where
+  apart : (t : List ℕ) → a ++ (t ++ (y ++ (d ++ z))) ≡ (a ++ (t ++ y)) ++ (d ++ z)
+  apart t = ap (λ u. a ++ u) (sym (append-assoc t y (d ++ z))) ∙ sym (append-assoc a (t ++ y) (d ++ z))
+
+  size : (t : List ℕ) → length t ≡ length x → length (a ++ (t ++ y)) ≡ p
+  size t q = omega (arith, length-append a (t ++ y), length-append t y, q, k)
+
+  joined : (t : List ℕ) → (a ++ (t ++ y)) ++ (c ++ z) ≡ a ++ (t ++ (y ++ (c ++ z)))
+  joined t = append-assoc a (t ++ y) (c ++ z) ∙ ap (λ u. a ++ u) (append-assoc t y (c ++ z))
+
+  swap-parts : laid (laid l p c) i b ≡ laid (laid l i b) p c
+  swap-parts =
+      let f : laid l p c ≡ a ++ (x ++ (y ++ (c ++ z))) =
+      laid-is l (a ++ (x ++ y)) d z c p (e ∙ apart x) (size x refl) o ∙ joined x in
+      let g : laid l i b ≡ a ++ (b ++ (y ++ (d ++ z))) = laid-is l a x (y ++ (d ++ z)) b i e h j in
+      laid-is (laid l p c) a x (y ++ (c ++ z)) b i f h j
+      ∙ sym (laid-is (laid l i b) (a ++ (b ++ y)) d z c p (g ∙ apart b) (size b (sym j)) o ∙ joined b)
+
+pub laid-swap :
+    (l : List ℕ) (i p : ℕ) (b c : List ℕ) → i + length b ≤ p → p + length c ≤ length l
+    → laid (laid l p c) i b ≡ laid (laid l i b) p c
+laid-swap l i p b c h k =
+    let l₁ = drop i l in
+    let l₂ = drop (length b) l₁ in
+    let n = p - (i + length b) in
+    let l₃ = drop n l₂ in
+    let e₁ : length l₁ ≡ length l - i = length-drop i l in
+    let e₂ : length l₂ ≡ length l₁ - length b = length-drop (length b) l₁ in
+    let e₃ : length l₃ ≡ length l₂ - n = length-drop n l₂ in
+    let f₀ : length (take i l) ≡ i = length-take-le i l (omega arith) in
+    let f₁ : length (take (length b) l₁) ≡ length b = length-take-le (length b) l₁ (omega arith) in
+    let f₂ : length (take n l₂) ≡ n = length-take-le n l₂ (omega arith) in
+    let f₃ : length (take (length c) l₃) ≡ length c = length-take-le (length c) l₃ (omega arith) in
+    swap-parts l (take i l) (take (length b) l₁) (take n l₂) (take (length c) l₃) (drop (length c) l₃) b c i p
+    (sym
+    (ap (λ t. take i l ++ (take (length b) l₁ ++ (take n l₂ ++ t))) (take-append-drop (length c) l₃)
+    ∙ ap (λ t. take i l ++ (take (length b) l₁ ++ t)) (take-append-drop n l₂)
+    ∙ ap (λ t. take i l ++ t) (take-append-drop (length b) l₁)
+    ∙ take-append-drop i l))
+    f₀ f₁ (omega arith) f₃
+
+-- a write before another write that stands: as if it had come first
+pub wrote-first :
+    {m b c : List ℕ} {p e q r : ℕ} {x y : List ℕ} → Wrote m b p e x → Wrote b c q r y → r ≤ p → e ≤ length m
+    → Wrote m (laid m q y) q r y
+wrote-first {m} {q = q} {y = y} f g h k =
+    record { place = g .place; len = length-laid m q y (omega (arith, f .place, g .place)); bytes = λ o. refl }
+
+pub wrote-after :
+    {m b c : List ℕ} {p e q r : ℕ} {x y : List ℕ} → Wrote m b p e x → Wrote b c q r y → r ≤ p → e ≤ length m
+    → Wrote (laid m q y) c p e x
+wrote-after {m} {b} {c} {p} {e} {q} {r} {x} {y} f g h k =
+    let n : length (laid m q y) ≡ length m = length-laid m q y (omega (arith, f .place, g .place)) in
+    record {
+      place = f .place;
+      len = g .len ∙ f .len ∙ sym n;
+      bytes = λ o.
+          g .bytes (omega (arith, f .len, f .place))
+          ∙ ap (λ t. laid t q y) (f .bytes k)
+          ∙ laid-swap m q p y x (omega (arith, g .place)) (omega (arith, f .place));
+    }
+
+-- ---- the pair that is next
+all-middle : {A : Type 0} (t : A → Bool) (l : List A) (x : A) (r : List A) → all t (l ++ (x ∷ r)) ≡ true → t x ≡ true
+unfolding all
+all-middle t [] x r e = split (t x) (λ q. q) (λ q. absurd (clash (sym (rw q at e))))
+all-middle t (y ∷ l) x r e = split (t y) (λ q. all-middle t l x r (rw q at e)) (λ q. absurd (clash (sym (rw q at e))))
+
+pub record Next (x y v : ℕ) : Type 0 where
+  pub left : x < v
+  pub right : y < v
+  pub differ : x ≢ y
+
+module _ {a b : List ℕ} {from at v : ℕ} {g : Grid} {s : List Pair} (x y : ℕ) (rest : List Pair) (d : Drawing a b from at v g s (pair x y ∷ rest)) where
+  pub next-pair : Next x y v
+  next-pair =
+      let e : proper v (pair x y) ≡ true = all-middle (proper v) (d .done) (pair x y) rest (ap (all (proper v)) (d .sum) ∙ d .proper-pairs) in
+      let f : and (ltb x v) (ltb y v) ≡ true = and-left (and (ltb x v) (ltb y v)) (not (eqb x y)) e in
+      record {
+        left = ltb-true x v (and-left (ltb x v) (ltb y v) f);
+        right = ltb-true y v (and-right (ltb x v) (ltb y v) f);
+        differ = λ q. clash (sym (and-right (and (ltb x v) (ltb y v)) (not (eqb x y)) e) ∙ ap not (eq-eqb x y q));
+      }
+
+  -- the rows lie at whole numbers of bytes
+  end-is : g .at + v * g .width ≡ g .at + v * row-width v
+  end-is = ap (λ t. g .at + v * t) (d .width)
+
+  rows-wrote : Wrote (d .mid) b (g .at) (g .at + v * row-width v) (gather row-bytes (square (d .done) v))
+  rows-wrote = wrote-to (d .rows) (sym end-is)
+
+  fits-mid : g .at + v * row-width v ≤ length (d .mid)
+  fits-mid = omega (arith, d .fits, end-is, d .pairs .len)
+
+  pub pair-met : bit-at b (g .at + x * g .width) y ≡ meets (d .done) x y
+  pair-met =
+      let n = next-pair in
+      let w : Wide v (square (d .done) v) = wide-square (d .done) v in
+      ap (λ t. bit-at b (g .at + x * t) y) (d .width)
+      ∙ wrote-row-bit v (square (d .done) v) x y rows-wrote w (omega (arith, n .left, length-square (d .done) v)) (n .right) fits-mid
+      ∙ bit-square (d .done) v x y (n .left) (n .right)
+      ∙ rw (ne-eqb x y (n .differ))
+
+  sum-next : (d .done ++ (pair x y ∷ [])) ++ rest ≡ s
+  sum-next = append-assoc (d .done) (pair x y ∷ []) rest ∙ d .sum
+
+  -- it was found before
+  pub draw-old : bit-at b (g .at + x * g .width) y ≡ true → Drawing a b from at v g s rest
+  unfolding meets
+  draw-old e =
+      let q : meets (d .done) x y ≡ true = sym pair-met ∙ e in
+      record {
+        done = d .done ++ (pair x y ∷ []);
+        sum = sum-next;
+        mid = d .mid;
+        pairs = wrote-as (d .pairs) (ap (gather pair-bytes) (once-again (g .mandatory) (d .done) (pair x y) q));
+        rows = wrote-as (d .rows) (ap (gather row-bytes) (square-again (d .done) x y v q));
+        fits = d .fits;
+        width = d .width;
+        few = d .few;
+        place = d .place;
+        room = d .room;
+        proper-pairs = d .proper-pairs;
+      }
+
+  -- its bits are set
+  both-set :
+      Wrote (d .mid) (with-bit (with-bit b (g .at + x * g .width) y) (g .at + y * g .width) x) (g .at) (g .at + v * g .width)
+      (gather row-bytes (square (d .done ++ (pair x y ∷ [])) v))
+  both-set =
+      let n = next-pair in
+      let r = square (d .done) v in
+      let w : Wide v r = wide-square (d .done) v in
+      let o : length r ≡ v = length-square (d .done) v in
+      let f : Wrote (d .mid) (with-bit b (g .at + x * row-width v) y) (g .at) (g .at + v * row-width v) (gather row-bytes (lit-up r x y)) =
+      wrote-row-set v r x y rows-wrote w (omega (arith, n .left, o)) (n .right) in
+      let k : length (lit-up r x y) ≡ v = length-lit r x y ∙ o in
+      let h : Wrote (d .mid) (with-bit (with-bit b (g .at + x * row-width v) y) (g .at + y * row-width v) x) (g .at) (g .at + v * row-width v) (gather row-bytes (lit-up (lit-up r x y) y x)) =
+      wrote-row-set v (lit-up r x y) y x f (wide-lit v r x y w) (omega (arith, n .right, k)) (n .left) in
+      rw (d .width) (wrote-as h (ap (gather row-bytes) (sym (square-more (d .done) x y v (n .left) (n .right) (n .differ)))))
+    where
+      length-lit : (r : List (List Bool)) (i j : ℕ) → length (lit-up r i j) ≡ length r
+      length-lit r i j = length-set r i (set (getD r i []) j true)
+
+  module _ (e : bit-at b (g .at + x * g .width) y ≡ false) {c : List ℕ} (set-both : c ≡ with-bit (with-bit b (g .at + x * g .width) y) (g .at + y * g .width) x) where
+    unmet : meets (d .done) x y ≡ false
+    unmet = sym pair-met ∙ e
+
+    rows-next : Wrote (d .mid) c (g .at) (g .at + v * g .width) (gather row-bytes (square (d .done ++ (pair x y ∷ [])) v))
+    rows-next = rw set-both both-set
+
+    -- not both are mandatory
+    pub draw-out : both (g .mandatory) (pair x y) ≡ false → Drawing a c from at v g s rest
+    unfolding meets
+    draw-out f =
+        record {
+          done = d .done ++ (pair x y ∷ []);
+          sum = sum-next;
+          mid = d .mid;
+          pairs = wrote-as (d .pairs) (ap (gather pair-bytes) (once-out (g .mandatory) (d .done) (pair x y) unmet f));
+          rows = rows-next;
+          fits = d .fits;
+          width = d .width;
+          few = d .few;
+          place = d .place;
+          room = d .room;
+          proper-pairs = d .proper-pairs;
+        }
+
+    -- both are, and the pair is written
+    pub draw-in :
+        {z o : List ℕ} {p q : ℕ} → both (g .mandatory) (pair x y) ≡ true → Wrote c z at p (u16 x) → Wrote z o p q (u16 y)
+        → Drawing a o from q v g s rest
+    unfolding meets pair-bytes gather
+    draw-in {z} {o} {p} {q} f k j =
+        let w : Wrote c o at q (u16 x ++ u16 y) = wrote-then k j in
+        let n : once (g .mandatory) (d .done ++ (pair x y ∷ [])) ≡ once (g .mandatory) (d .done) ++ (pair x y ∷ []) =
+        once-in (g .mandatory) (d .done) (pair x y) unmet f in
+        let h : q ≤ g .at =
+        omega (
+          arith,
+          d .pairs .place,
+          length-pairs (once (g .mandatory) (d .done)),
+          k .place,
+          j .place,
+          length-u16 x,
+          length-u16 y,
+          d .room,
+          ap length n,
+          length-append (once (g .mandatory) (d .done)) (pair x y ∷ []),
+          once-prefix (g .mandatory) (d .done ++ (pair x y ∷ [])) rest,
+          ap (λ t. length (once (g .mandatory) t)) sum-next,
+        ) in
+        let i : g .at + v * g .width ≤ length (d .mid) = omega (arith, d .fits, d .pairs .len) in
+        record {
+          done = d .done ++ (pair x y ∷ []);
+          sum = sum-next;
+          mid = laid (d .mid) at (u16 x ++ u16 y);
+          pairs = wrote-as (wrote-then (d .pairs) (wrote-first rows-next w h i))
+              (ap (gather pair-bytes) n
+              ∙ gather-append pair-bytes (once (g .mandatory) (d .done)) (pair x y ∷ [])
+              ∙ ap (λ t. gather pair-bytes (once (g .mandatory) (d .done)) ++ t) (append-nil (u16 x ++ u16 y)));
+          rows = wrote-after rows-next w h i;
+          fits = d .fits;
+          width = d .width;
+          few = d .few;
+          place = d .place;
+          room = d .room;
+          proper-pairs = d .proper-pairs;
+        }
+
+  -- no sum wraps
+  pub place-below : at ≤ g .at
+  place-below =
+      omega (
+        arith,
+        d .pairs .place,
+        length-pairs (once (g .mandatory) (d .done)),
+        d .room,
+        once-prefix (g .mandatory) (d .done) (pair x y ∷ rest),
+        ap (λ t. length (once (g .mandatory) t)) (d .sum),
+      )

@@ -1,0 +1,125 @@
+// Pairs and rows drawn into the buffer: the rows tell which pairs were found, so that each mandatory pair is written once,
+// in the order and the orientation in which it is found.
+use crate::tally;
+use slots::cells;
+ghost use mathlib.Core.List.{[], _∷_};
+ghost use Rattle.paper.specs.Frames.{pair, pairs-in};
+ghost use Rattle.disjoint.specs.Words.{numbers, listed};
+ghost use Rattle.disjoint.specs.Written.{CanPutDisjoint, PutsDisjoint};
+ghost use Rattle.disjoint.specs.Drawn.{CanDraw, Drew, pairs-at, CanDrawAt, CanDrawRow, CanDrawAll};
+
+/// Where the rows of a frame stand, the bytes of a row, and the number of mandatory variables.
+pub struct Grid {
+    pub at: usize,
+    pub width: usize,
+    pub mandatory: usize,
+}
+
+/// Sets the bits of two variables, and stores their pair if they were not set and both are mandatory.
+pub fn put_pair(buf: &mut [u8], at: usize, g: Grid, x: usize, y: usize) -> usize
+    requires { ⌜ CanDraw (now buf) g at (pair x y ∷ []) ⌝ }
+    ensures { λ r. ⌜ Drew (now (buf .entry)) (now (buf .exit)) g at r (pair x y ∷ []) [] ⌝ }
+{
+    let line = g.at + x * g.width;
+    if stream::bits::bit_at(buf, line, y) {
+        return at;
+    }
+    stream::bits::set_bit(buf, line, y);
+    stream::bits::set_bit(buf, g.at + y * g.width, x);
+    if g.mandatory <= x {
+        return at;
+    }
+    if g.mandatory <= y {
+        return at;
+    }
+    let a = stream::write::put_u16(buf, at, x as u64);
+    stream::write::put_u16(buf, a, y as u64)
+}
+
+/// The pairs of the i-th token of a `$d` with those right of it.
+pub fn put_pairs_at(
+    work: &[u32],
+    n: usize,
+    buf: &mut [u8],
+    at: usize,
+    g: Grid,
+    row: usize,
+    i: usize,
+) -> usize
+    requires { ⌜ CanDrawAt (now work) (now buf) n row i g at ⌝ }
+    ensures { λ r. ⌜ Drew (now (buf .entry)) (now (buf .exit)) g at r (pairs-at (numbers (now (work .entry)) n row) i) [] ⌝ }
+{
+    let first = cells::of_statement(work, n, row, area::FIRST) as usize;
+    let count = cells::of_statement(work, n, row, area::COUNT) as usize;
+    let x = tally::number(work, n, first + i);
+    let mut a = at;
+    let mut j = i + 1;
+    while j < count {
+        let y = tally::number(work, n, first + j);
+        a = put_pair(buf, a, g, x, y);
+        j += 1;
+    }
+    a
+}
+
+/// The pairs of one `$d`.
+pub fn put_pairs_of(work: &[u32], n: usize, buf: &mut [u8], at: usize, g: Grid, row: usize) -> usize
+    requires { ⌜ CanDrawRow (now work) (now buf) n row g at ⌝ }
+    ensures { λ r. ⌜ Drew (now (buf .entry)) (now (buf .exit)) g at r (pairs-in (numbers (now (work .entry)) n row)) [] ⌝ }
+{
+    let count = cells::of_statement(work, n, row, area::COUNT) as usize;
+    let mut a = at;
+    let mut i: usize = 0;
+    while i < count {
+        a = put_pairs_at(work, n, buf, a, g, row, i);
+        i += 1;
+    }
+    a
+}
+
+/// The pairs of the active `$d`.
+pub fn put_pairs(work: &[u32], n: usize, buf: &mut [u8], at: usize, g: Grid, ds: usize) -> usize
+    requires { ⌜ CanDrawAll (now work) (now buf) n ds g at ⌝ }
+    ensures { λ r. ⌜ Drew (now (buf .entry)) (now (buf .exit)) g at r (listed (now (work .entry)) n ds) [] ⌝ }
+{
+    let mut a = at;
+    let mut k: usize = 0;
+    while k < ds {
+        let row = cells::of_statement(work, n, k, area::DIS) as usize;
+        a = put_pairs_of(work, n, buf, a, g, row);
+        k += 1;
+    }
+    a
+}
+
+/// The number of mandatory pairs, the pairs, and the rows. If they do not all fit, only the place after them is answered.
+pub fn put_disjoint(
+    work: &mut [u32],
+    n: usize,
+    buf: &mut [u8],
+    at: usize,
+    vars: usize,
+    mandatory: usize,
+    ds: usize,
+) -> usize
+    requires { ⌜ CanPutDisjoint (now work) n at vars mandatory ds ⌝ }
+    ensures { λ r. ⌜ PutsDisjoint (now (work .entry)) (now (work .exit)) (now (buf .entry)) (now (buf .exit)) n at r vars mandatory ds ⌝ }
+{
+    let pairs = tally::pair_count(work, n, mandatory, ds);
+    let width = (vars + 7) / 8;
+    let size = vars * width;
+    let body = stream::write::put_u32(buf, at, pairs as u64);
+    let rows = body + 4 * pairs;
+    let end = rows + size;
+    if buf.len() < end {
+        return end;
+    }
+    stream::write::put_zeros(buf, rows, size);
+    let g = Grid {
+        at: rows,
+        width,
+        mandatory,
+    };
+    put_pairs(work, n, buf, body, g, ds);
+    end
+}

@@ -1,0 +1,11 @@
+pub mod Rise
+pub mod Grammar
+pub mod Ends
+pub mod Counts
+pub mod Read
+pub mod Sense
+pub mod States
+pub mod Gives
+pub mod Recorded
+pub mod Single
+pub mod Order

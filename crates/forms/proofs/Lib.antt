@@ -1,0 +1,14 @@
+pub mod Read
+pub mod OneName
+pub mod Variables
+pub mod Constants
+pub mod Essentials
+pub mod Fragments
+pub mod Formulas
+pub mod Spelled
+pub mod Order
+pub mod Counted
+pub mod Floats
+pub mod FloatWalk
+pub mod StackRows
+pub mod HypWalk

@@ -1,0 +1,30 @@
+use native.Mathlib.Omega.{arith}
+use mathlib.Core.Path.{ap}
+use lib.ListN.{getD}
+use Rattle.area.specs.Cells.{word}
+use borrow.Author.Needs.{needs}
+use Rattle.forms.proofs.words.math_word.Statement.{statement}
+use Rattle.forms.proofs.words.math_word.Tie as tie
+use Rattle.forms.proofs.words.math_word.Reads as reads
+use Rattle.forms.proofs.words.math_word.Lts as lts
+use Rattle.area.proofs.math.Reads as math-reads
+
+math-requires : tie.Need-math-requires
+math-requires c κs = search needs
+
+mul-result : tie.Need-mul-result
+mul-result c = search needs
+
+shared-slice-read-result : tie.Need-shared-slice-read-result
+shared-slice-read-result c = search needs
+
+cast-result : tie.Need-cast-result
+cast-result c = omega (arith, c .shared-slice-known2 .given (c .before .math .result))
+
+returns : tie.Need-returns
+unfolding word
+returns c = (ap (λ i. getD (c .before .before .before .args .work .now) i 0) (c .before .math .ensures), omega (arith, c .shared-slice-known2 .given (c .before .math .result)))
+
+pub math-word-spec : {M : Type 1} → statement M
+math-word-spec =
+    tie.close (tie.spec math-requires mul-result shared-slice-read-result cast-result returns)

@@ -1,0 +1,128 @@
+// Expressions: the typecode, the fragments that the variables end, and the rump; places are in the pool.
+// A variable's number is its word NUMBER less 1.
+use crate::names;
+use crate::pool;
+use crate::words;
+ghost use mathlib.Core.Path.{_≡_};
+ghost use mathlib.Core.Logic.{_≢_};
+ghost use Prim.Native.Nat.{_+_, _-_, _*_, _<_, _≤_, _^_};
+ghost use Rattle.paper.specs.Records.{fragment-bytes};
+ghost use Rattle.stream.specs.Wrote.{Wrote};
+ghost use Rattle.forms.specs.Words.{count-of, variable-size, variables-to, RowWords, RowNumbers, SomeRow};
+ghost use Rattle.forms.specs.Spelling.{CanPutSymbol, PutSymbol, spelling, PutExpression};
+
+/// The place reached in the buffer, and the fragment in hand: where it starts in the pool, and the place reached there.
+pub struct Reached {
+    pub at: usize,
+    pub from: usize,
+    pub to: usize,
+}
+
+/// 1 for a variable, 0 for a constant, by its number.
+pub fn one_variable(number: usize) -> usize
+    ensures { λ r. ⌜ (r ≤ 1) × (r ≡ variable-size number) ⌝ }
+{
+    if number == area::NO_END as usize {
+        return 0;
+    }
+    1
+}
+
+/// The number of variables of a row.
+pub fn count_variables(work: &[u32], n: usize, row: usize) -> usize
+    requires { ⌜ SomeRow (now work) n row ⌝ }
+    ensures { λ r. ⌜ (r ≤ count-of (now (work .entry)) row) × (r ≡ variables-to (now (work .entry)) n row (count-of (now (work .entry)) row)) ⌝ }
+{
+    let first = words::statement_word(work, row, area::FIRST);
+    let count = words::statement_word(work, row, area::COUNT);
+    let mut sum = 0;
+    let mut i = 1;
+    while i < count {
+        let atom = words::math_word(work, n, first + i);
+        sum += one_variable(words::symbol_word(work, n, atom, area::NUMBER));
+        i += 1;
+    }
+    sum
+}
+
+/// A fragment that a variable of this number ends.
+pub fn put_fragment(buf: &mut [u8], at: usize, from: usize, to: usize, number: usize) -> usize
+    requires { ⌜ (number ≢ 0) × (at < 2 ^ 62) ⌝ }
+    ensures { λ r. ⌜ (r ≡ at + 10) × Wrote (now (buf .entry)) (now (buf .exit)) at r (fragment-bytes (record { from = from; to = to; variable = number - 1 })) ⌝ }
+{
+    let a = stream::write::put_u32(buf, at, from as u64);
+    let b = stream::write::put_u32(buf, a, to as u64);
+    stream::write::put_u16(buf, b, (number - 1) as u64)
+}
+
+/// One symbol: a constant goes on with the fragment in hand, a variable ends it.
+pub fn put_symbol(work: &[u32], n: usize, buf: &mut [u8], p: Reached, atom: usize) -> Reached
+    requires { ⌜ CanPutSymbol (now work) n p atom ⌝ }
+    ensures { λ r. ⌜ PutSymbol (now (work .entry)) n (now (buf .entry)) (now (buf .exit)) p r atom ⌝ }
+{
+    let size = pool::constant_length(work, n, atom);
+    let number = words::symbol_word(work, n, atom, area::NUMBER);
+    if number == area::NO_END as usize {
+        return Reached {
+            at: p.at,
+            from: p.from,
+            to: p.to + size,
+        };
+    }
+    let at = put_fragment(buf, p.at, p.from, p.to, number);
+    Reached {
+        at: at,
+        from: p.to,
+        to: p.to + size,
+    }
+}
+
+/// The fragments and the rump of a row, whose constants stand in the pool from `pool` on.
+pub fn put_fragments(
+    work: &[u32],
+    n: usize,
+    buf: &mut [u8],
+    at: usize,
+    row: usize,
+    pool: usize,
+) -> usize
+    requires { ⌜ SomeRow (now work) n row × RowNumbers (now work) n row × (at < 2 ^ 61) × (pool < 2 ^ 61) ⌝ }
+    ensures { λ r. ⌜ (r ≤ at + 8 + 10 * n) × Wrote (now (buf .entry)) (now (buf .exit)) at r (spelling (now (work .entry)) n row pool) ⌝ }
+{
+    let first = words::statement_word(work, row, area::FIRST);
+    let count = words::statement_word(work, row, area::COUNT);
+    let mut p = Reached {
+        at: at,
+        from: pool,
+        to: pool,
+    };
+    let mut i = 1;
+    while i < count {
+        let atom = words::math_word(work, n, first + i);
+        p = put_symbol(work, n, buf, p, atom);
+        i += 1;
+    }
+    let a = stream::write::put_u32(buf, p.at, p.from as u64);
+    stream::write::put_u32(buf, a, p.to as u64)
+}
+
+/// The expression of a row, whose constants stand in the pool from `pool` on.
+pub fn put_expression(
+    text: &[u8],
+    work: &[u32],
+    n: usize,
+    buf: &mut [u8],
+    at: usize,
+    row: usize,
+    pool: usize,
+) -> usize
+    requires { ⌜ RowWords (now text) (now work) n row × RowNumbers (now work) n row × (at < 2 ^ 60) × (pool < 2 ^ 60) ⌝ }
+    ensures { λ r. ⌜ PutExpression (now (text .entry)) (now (work .entry)) n row pool (now (buf .entry)) (now (buf .exit)) at r ⌝ }
+{
+    let first = words::statement_word(work, row, area::FIRST);
+    let typecode = words::math_word(work, n, first);
+    let variables = count_variables(work, n, row);
+    let a = names::put_name(text, work, n, buf, at, typecode);
+    let b = stream::write::put_u32(buf, a, variables as u64);
+    put_fragments(work, n, buf, b, row, pool)
+}

@@ -1,0 +1,61 @@
+-- The parts, one after the other, are the definition's record of the frame.
+-- Assumes nothing.
+use mathlib.Core.Path.{_≡_, refl, sym, ap, _∙_}
+use mathlib.Core.List.{List, [], _∷_, _++_, map, append-assoc}
+use Prim.Native.Nat.{ℕ, _+_}
+use native.Mathlib.Omega.{arith}
+use lib.ListN.{length, length-append}
+use Rattle.paper.specs.Base.{gather}
+use Rattle.paper.specs.Statements.{Statement}
+use Rattle.paper.specs.Frames.{sights, pool-of, expression, hypotheses, pooled, in-order, pairs, rows, mandatory, frame-of}
+use Rattle.paper.specs.Records.{le, u16, u32, string, framed, expression-bytes, hypothesis-bytes, pair-bytes, row-bytes, full-payload, frame-record}
+use Rattle.reader.specs.Rows.{stmt}
+use Rattle.sight.specs.Static.{static, row-hyp, row-disjoint, rows-state}
+use Rattle.disjoint.specs.Written.{names-at, disjoint-bytes}
+use Rattle.frames.specs.Front.{record-kind, front}
+use Rattle.frames.specs.InHand.{head, middle, body}
+
+-- five parts, then two, then three, then three: nested to the right
+regroup :
+    (a b c d e f g h i j x y z : List ℕ)
+    → ((a ++ (b ++ (c ++ (d ++ e)))) ++ (f ++ g)) ++ (((h ++ i) ++ j) ++ (x ++ (y ++ z)))
+    ≡ a ++ (b ++ (c ++ (d ++ (e ++ (f ++ (g ++ (h ++ (i ++ (j ++ (x ++ (y ++ z)))))))))))
+regroup a b c d e f g h i j x y z =
+    rw (
+      append-assoc (a ++ (b ++ (c ++ (d ++ e)))) (f ++ g) (((h ++ i) ++ j) ++ (x ++ (y ++ z))),
+      append-assoc a (b ++ (c ++ (d ++ e))) ((f ++ g) ++ (((h ++ i) ++ j) ++ (x ++ (y ++ z)))),
+      append-assoc b (c ++ (d ++ e)) ((f ++ g) ++ (((h ++ i) ++ j) ++ (x ++ (y ++ z)))),
+      append-assoc c (d ++ e) ((f ++ g) ++ (((h ++ i) ++ j) ++ (x ++ (y ++ z)))),
+      append-assoc d e ((f ++ g) ++ (((h ++ i) ++ j) ++ (x ++ (y ++ z)))),
+      append-assoc f g (((h ++ i) ++ j) ++ (x ++ (y ++ z))),
+      append-assoc (h ++ i) j (x ++ (y ++ z)),
+      append-assoc h i (j ++ (x ++ (y ++ z))),
+    )
+
+-- the length of a record counts its kind
+framed-body : (k : ℕ) (p : List ℕ) → framed k p ≡ u32 (length (u16 k ++ p)) ++ (u16 k ++ p)
+unfolding framed u16 le
+framed-body k p =
+    let e : 2 + length p ≡ length (u16 k ++ p) = omega arith in
+    ap (λ n. u32 n ++ (u16 k ++ p)) e
+
+pub frame-body :
+    (l : List Statement) (h d : List ℕ) (vs m : List (List ℕ)) (row : ℕ)
+    → in-order (map (row-disjoint l) d) ≡ map (names-at l) d
+    → m ≡ mandatory (map (row-hyp l) h) (static l (stmt l row))
+    → vs ≡ sights (gather (λ n. n) (map (names-at l) d)) m
+    → frame-record (frame-of (record-kind (stmt l row .kind)) (stmt l row) (rows-state l h d) (static l (stmt l row)))
+    ≡ u32 (length (body l h d vs m row)) ++ body l h d vs m row
+unfolding frame-record frame-of full-payload body head middle front
+frame-body l h d vs m row e f g =
+    rw (e, ← f, ← g)
+    (framed-body (record-kind (stmt l row .kind)) _
+    ∙ ap (λ b. u32 (length b) ++ b)
+    (sym
+    (regroup (u16 (record-kind (stmt l row .kind))) (u32 (stmt l row .at)) (string (stmt l row .label)) (u16 (length vs))
+    (u16 (length m)) (gather string vs)
+    (string (gather pooled (map (row-hyp l) h) ++ pool-of (static l (stmt l row))))
+    (u32 (length (hypotheses m (map (row-hyp l) h) 0))) (gather hypothesis-bytes (hypotheses m (map (row-hyp l) h) 0))
+    (expression-bytes (expression m (static l (stmt l row)) (length (gather pooled (map (row-hyp l) h)))))
+    (u32 (length (pairs m (map (names-at l) d)))) (gather pair-bytes (pairs m (map (names-at l) d)))
+    (gather row-bytes (rows vs (map (names-at l) d))))))

@@ -1,0 +1,5 @@
+pub mod Static
+pub mod Rows
+pub mod Active
+pub mod Floats
+pub mod Framed

@@ -1,0 +1,4 @@
+pub mod Ready
+pub mod Gives
+pub mod ByKind
+pub mod Whole

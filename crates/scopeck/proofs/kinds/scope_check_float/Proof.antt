@@ -1,0 +1,110 @@
+use mathlib.Core.Path.{_≡_, sym, ap, _∙_, refl}
+use native.Mathlib.Omega.{arith}
+use Prim.Native.Nat.{_+_, _-_, _*_, _<_, _≤_}
+use Rattle.scopeck.proofs.Ready.{row-room, small-place, walk-of, floats-of, walk-part, can-labelled, two-rows, can-float}
+use Rattle.scopeck.proofs.ByKind.{later-bearer, float-rejected, float-accepted}
+use borrow.Author.Needs.{needs}
+use Rattle.scopeck.proofs.kinds.scope_check_float.Statement.{statement}
+use Rattle.scopeck.proofs.kinds.scope_check_float.Tie as tie
+use Rattle.scopeck.proofs.kinds.scope_check_float.Reads as reads
+use Rattle.scopeck.proofs.kinds.scope_check_float.Lts as lts
+use Rattle.checks.proofs.tokens.check_float.Reads as check-float-reads
+use Rattle.checks.proofs.tokens.check_label.Reads as check-label-reads
+use Rattle.scopeck.proofs.rows.check_label_dup.Reads as check-label-dup-reads
+use Rattle.scopeck.proofs.rows.move_to.Reads as move-to-reads
+use Rattle.scopeck.proofs.rows.read_row.Reads as read-row-reads
+use Rattle.slots.proofs.cells.of_math.Reads as of-math-reads
+use Rattle.slots.proofs.look.record_float.Reads as record-float-reads
+
+read-row-requires : tie.Need-read-row-requires
+read-row-requires c κs = (c .before .before .before .pre .0 .holds .room, row-room (c .before .before .before .pre .0 .holds))
+
+check-label-dup-requires : tie.Need-check-label-dup-requires
+check-label-dup-requires c κs = let q = can-labelled (c .before .before .before .before .before .pre .0 .holds) (c .before .read-row .ensures) (omega (arith, c .before .before .before .before .before .pre .1)) in (q .room, q .atom)
+
+enum-told : tie.Need-enum-told
+enum-told c = search needs
+
+enum-told-2 : tie.Need-enum-told-2
+enum-told-2 c = search needs
+
+check-label-requires : tie.Need-check-label-requires
+check-label-requires c κs = can-labelled (c .before .before .before .before .before .before .before .before .before .before .pre .0 .holds) (c .before .before .before .before .before .before .read-row .ensures) (omega (arith, c .before .before .before .before .before .before .before .before .before .before .pre .1))
+
+move-to-requires : tie.Need-move-to-requires
+move-to-requires c κs = search needs
+
+same-length : tie.Need-same-length
+same-length c = search needs
+
+same-length-2 : tie.Need-same-length-2
+same-length-2 c = search needs
+
+returns : tie.Need-returns
+returns c = later-bearer (c .before .before .before .before .before .before .before .before .before .before .read-row .ensures) (c .move-to .ensures) (omega (arith, c .before .before .before .before .before .before .before .before .before .before .before .before .before .before .pre .1)) (sym (c .before .before .before .before .before .before .enum-told2 .given .1) ∙ c .before .before .before .before .before .before .before .before .check-label-dup .ensures) (c .before .before .before .check-label .ensures)
+
+of-math-requires : tie.Need-of-math-requires
+of-math-requires c κs = let b = (c .before .before .before .before .before .before .before .before .before .pre .0 .holds) in (b .room, omega (arith, two-rows b (c .before .before .before .before .before .read-row .ensures) (c .before .before .before .before .before .before .before .before .before .pre .1)))
+
+add-of-math : tie.Need-add-of-math
+add-of-math c = let b = (c .before .before .before .before .before .before .before .before .before .before .before .before .pre .0 .holds) in omega (arith, two-rows b (c .before .before .before .before .before .before .before .before .read-row .ensures) (c .before .before .before .before .before .before .before .before .before .before .before .before .pre .1), b .room .small)
+
+of-math-requires-2 : tie.Need-of-math-requires-2
+of-math-requires-2 c κs = let b = (c .before .before .before .before .before .before .before .before .before .before .before .before .pre .0 .holds) in (b .room, omega (arith, two-rows b (c .before .before .before .before .before .before .before .before .read-row .ensures) (c .before .before .before .before .before .before .before .before .before .before .before .before .pre .1)))
+
+check-float-requires : tie.Need-check-float-requires
+check-float-requires c κs = can-float (c .before .before .before .before .before .before .before .before .before .before .before .before .before .before .before .pre .0 .holds) (c .before .before .before .before .before .before .before .before .before .before .before .read-row .ensures) (c .before .before .before .before .before .before .before .before .before .before .before .before .before .before .before .pre .1) (c .before .before .before .before .before .of-math .ensures) (c .before .before .of-math2 .ensures)
+
+move-to-requires-2 : tie.Need-move-to-requires-2
+move-to-requires-2 c κs = search needs
+
+same-length-3 : tie.Need-same-length-3
+same-length-3 c = search needs
+
+same-length-4 : tie.Need-same-length-4
+same-length-4 c = search needs
+
+returns-2 : tie.Need-returns-2
+returns-2 c = float-rejected (c .before .before .before .before .before .before .before .before .before .before .before .before .before .before .before .before .before .read-row .ensures) (c .before .before .before .before .before .before .before .before .before .before .before .before .before .before .before .before .before .before .before .before .before .pre .1) (sym (c .before .before .before .before .before .before .before .before .before .before .before .before .before .enum-told .given .1) ∙ c .before .before .before .before .before .before .before .before .before .before .before .before .before .before .before .check-label-dup .ensures) (c .before .before .before .before .before .before .before .before .before .before .before .of-math .ensures) (c .before .before .before .before .before .before .before .before .of-math2 .ensures) (c .before .before .before .before .before .check-float .ensures) (c .move-to2 .ensures) (c .before .if1 .taken)
+
+record-float-requires : tie.Need-record-float-requires
+record-float-requires c κs = let b = (c .before .before .before .before .before .before .before .before .before .before .before .before .before .before .before .before .before .before .before .before .before .pre .0 .holds) in (b .room, can-float b (c .before .before .before .before .before .before .before .before .before .before .before .before .before .before .before .before .before .read-row .ensures) (c .before .before .before .before .before .before .before .before .before .before .before .before .before .before .before .before .before .before .before .before .before .pre .1) (c .before .before .before .before .before .before .before .before .before .before .before .of-math .ensures) (c .before .before .before .before .before .before .before .before .of-math2 .ensures) .1 .atom, omega (arith, row-room b))
+
+move-to-requires-3 : tie.Need-move-to-requires-3
+move-to-requires-3 c κs = search needs
+
+same-length-5 : tie.Need-same-length-5
+same-length-5 c = search needs
+
+same-length-6 : tie.Need-same-length-6
+same-length-6 c = search needs
+
+returns-3 : tie.Need-returns-3
+returns-3 c = float-accepted (c .before .before .before .before .before .before .before .before .before .before .before .before .before .before .before .before .before .before .before .before .before .read-row .ensures) (c .before .before .before .before .before .before .before .before .before .before .before .before .before .before .before .before .before .before .before .before .before .before .before .before .before .pre .1) (sym (c .before .before .before .before .before .before .before .before .before .before .before .before .before .before .before .before .before .enum-told .given .1) ∙ c .before .before .before .before .before .before .before .before .before .before .before .before .before .before .before .before .before .before .before .check-label-dup .ensures) (c .before .before .before .before .before .before .before .before .before .before .before .before .before .before .before .of-math .ensures) (c .before .before .before .before .before .before .before .before .before .before .before .before .of-math2 .ensures) (c .before .before .before .before .before .before .before .before .before .check-float .ensures) (c .move-to3 .ensures) (c .before .before .before .before .before .if1 .left) (c .before .before .before .record-float .ensures)
+
+pub scope-check-float-spec : {M : Type 1} → statement M
+scope-check-float-spec =
+    tie.close
+    (tie.spec
+    read-row-requires
+    check-label-dup-requires
+    enum-told
+    enum-told-2
+    check-label-requires
+    move-to-requires
+    same-length
+    same-length-2
+    returns
+    of-math-requires
+    add-of-math
+    of-math-requires-2
+    check-float-requires
+    move-to-requires-2
+    same-length-3
+    same-length-4
+    returns-2
+    record-float-requires
+    move-to-requires-3
+    same-length-5
+    same-length-6
+    returns-3)

@@ -1,0 +1,156 @@
+// The check of a statement of each kind: its diagnostics, and what it records if it got none.
+// The math string of a `$c` or `$v` comes in as a part of the text.
+use crate::Owner;
+use crate::Scope;
+use crate::rows::check_label_dup;
+use crate::rows::move_to;
+use crate::rows::read_row;
+use checks::tokens::check_float;
+use checks::tokens::check_label;
+use checks::walks::check_dv;
+use checks::walks::check_eap;
+use checks::walks::walk_nested;
+use checks::walks::walk_outer;
+use paper::Atom;
+use paper::TokenIndex;
+use slots::cells::of_math;
+use slots::cells::of_statement;
+use slots::look::record_float;
+use slots::stack::push;
+use stream::record::put_diag;
+ghost use mathlib.Core.Path.{_≡_};
+ghost use Prim.Native.Nat.{_≤_};
+ghost use Rattle.area.specs.Cells.{statement-cell, word};
+ghost use Rattle.scopeck.specs.Scope.{SomeReady, Gives, SomePart, GivesPart};
+
+/// `$c`, whose math string is `part`: a nested one declares nothing.
+pub fn scope_check_constant(
+    part: &[u8],
+    work: &[u32],
+    n: usize,
+    diags: &mut [u8],
+    st: Scope,
+    row: usize,
+) -> Scope
+    requires { ⌜ SomePart (now work) (now part) n st row × (word (now work) (statement-cell row 0) ≡ 1) ⌝ }
+    ensures { λ r. ⌜ GivesPart (now (work .entry)) (now (work .entry)) (now (part .entry)) (now (diags .entry)) (now (diags .exit)) n st r row ⌝ }
+{
+    let x = read_row(work, n, row);
+    let from = of_statement(work, n, row, area::FROM);
+    let end = of_statement(work, n, row, area::END);
+    if end == area::NO_END {
+        let p = walk_outer(part, work, n, diags, st.diags, x.first, from, x.at);
+        return move_to(st, p);
+    }
+    let p = put_diag(diags, st.diags, 13, x.at, TokenIndex(0), 0);
+    move_to(st, p)
+}
+
+/// `$v`, whose math string is `part`: a nested one is recorded token by token.
+pub fn scope_check_variable(
+    part: &[u8],
+    work: &mut [u32],
+    n: usize,
+    diags: &mut [u8],
+    st: Scope,
+    row: usize,
+) -> Scope
+    requires { ⌜ SomePart (now work) (now part) n st row × (word (now work) (statement-cell row 0) ≡ 2) ⌝ }
+    ensures { λ r. ⌜ GivesPart (now (work .entry)) (now (work .exit)) (now (part .entry)) (now (diags .entry)) (now (diags .exit)) n st r row ⌝ }
+{
+    let x = read_row(work, n, row);
+    let from = of_statement(work, n, row, area::FROM);
+    let end = of_statement(work, n, row, area::END);
+    if end == area::NO_END {
+        let p = walk_outer(part, work, n, diags, st.diags, x.first, from, x.at);
+        return move_to(st, p);
+    }
+    let p = walk_nested(part, work, n, diags, st.diags, x.first, from, end, x.at);
+    move_to(st, p)
+}
+
+/// `$d`: put on its stack if it is accepted.
+pub fn scope_check_dv(work: &mut [u32], n: usize, diags: &mut [u8], st: Scope, row: usize) -> Scope
+    requires { ⌜ SomeReady (now work) n st row × (word (now work) (statement-cell row 0) ≡ 3) ⌝ }
+    ensures { λ r. ⌜ Gives (now (work .entry)) (now (work .exit)) (now (diags .entry)) (now (diags .exit)) n st r row ⌝ }
+{
+    let x = read_row(work, n, row);
+    let p = check_dv(work, n, diags, st.diags, x.first, x.count, x.at);
+    if p != st.diags {
+        return move_to(st, p);
+    }
+    push(work, n, area::DIS, st.ds, row);
+    Scope {
+        es: st.es,
+        ds: st.ds + 1,
+        diags: p,
+    }
+}
+
+/// `$f`: its variable's slot holds its row if it is accepted.
+pub fn scope_check_float(
+    work: &mut [u32],
+    n: usize,
+    diags: &mut [u8],
+    st: Scope,
+    row: usize,
+) -> Scope
+    requires { ⌜ SomeReady (now work) n st row × (word (now work) (statement-cell row 0) ≡ 4) ⌝ }
+    ensures { λ r. ⌜ Gives (now (work .entry)) (now (work .exit)) (now (diags .entry)) (now (diags .exit)) n st r row ⌝ }
+{
+    let x = read_row(work, n, row);
+    let Owner::Own(_) = check_label_dup(work, n, x.label, x.at) else {
+        let p = check_label(work, n, diags, st.diags, x.label, x.at);
+        return move_to(st, p);
+    };
+    let typecode = Atom(of_math(work, n, x.first));
+    let variable = Atom(of_math(work, n, x.first + 1));
+    let p = check_float(work, n, diags, st.diags, typecode, variable, x.at);
+    if p != st.diags {
+        return move_to(st, p);
+    }
+    record_float(work, n, variable, row);
+    move_to(st, p)
+}
+
+/// `$e`: put on its stack if it is accepted.
+pub fn scope_check_essential(
+    work: &mut [u32],
+    n: usize,
+    diags: &mut [u8],
+    st: Scope,
+    row: usize,
+) -> Scope
+    requires { ⌜ SomeReady (now work) n st row × (word (now work) (statement-cell row 0) ≡ 5) ⌝ }
+    ensures { λ r. ⌜ Gives (now (work .entry)) (now (work .exit)) (now (diags .entry)) (now (diags .exit)) n st r row ⌝ }
+{
+    let x = read_row(work, n, row);
+    let Owner::Own(_) = check_label_dup(work, n, x.label, x.at) else {
+        let p = check_label(work, n, diags, st.diags, x.label, x.at);
+        return move_to(st, p);
+    };
+    let p = check_eap(work, n, diags, st.diags, x.first, x.count, x.at);
+    if p != st.diags {
+        return move_to(st, p);
+    }
+    push(work, n, area::ESS, st.es, row);
+    Scope {
+        es: st.es + 1,
+        ds: st.ds,
+        diags: p,
+    }
+}
+
+/// `$a` or `$p`.
+pub fn scope_check_assert(work: &[u32], n: usize, diags: &mut [u8], st: Scope, row: usize) -> Scope
+    requires { ⌜ SomeReady (now work) n st row × (6 ≤ word (now work) (statement-cell row 0)) ⌝ }
+    ensures { λ r. ⌜ Gives (now (work .entry)) (now (work .entry)) (now (diags .entry)) (now (diags .exit)) n st r row ⌝ }
+{
+    let x = read_row(work, n, row);
+    let Owner::Own(_) = check_label_dup(work, n, x.label, x.at) else {
+        let p = check_label(work, n, diags, st.diags, x.label, x.at);
+        return move_to(st, p);
+    };
+    let p = check_eap(work, n, diags, st.diags, x.first, x.count, x.at);
+    move_to(st, p)
+}

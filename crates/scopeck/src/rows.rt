@@ -1,0 +1,56 @@
+// What a statement's row says, whether it owns its label, and the state after it.
+use crate::Owner;
+use crate::Row;
+use crate::Scope;
+use paper::Atom;
+use paper::StatementOffset;
+use slots::Slot;
+use slots::cells::of_statement;
+use slots::look::label_owner;
+ghost use mathlib.Core.Path.{_≡_};
+ghost use Prim.Native.Nat.{_+_, _*_, _<_, _≤_};
+ghost use Rattle.slots.specs.Kept.{Room};
+ghost use Rattle.slots.specs.Slots.{owner-slot};
+ghost use Rattle.scopeck.specs.Scope.{row-of, own-by, moved};
+
+/// The words of a statement's row.
+pub fn read_row(work: &[u32], n: usize, row: usize) -> Row
+    requires { ⌜ Room (now work) n × (3 * row + 3 ≤ n) ⌝ }
+    ensures { λ r. ⌜ r ≡ row-of (now (work .entry)) row ⌝ }
+{
+    let at = of_statement(work, n, row, area::AT);
+    let label = of_statement(work, n, row, area::LABEL);
+    let first = of_statement(work, n, row, area::FIRST) as usize;
+    let count = of_statement(work, n, row, area::COUNT) as usize;
+    Row {
+        at: StatementOffset(at),
+        label: Atom(label),
+        first: first,
+        count: count,
+    }
+}
+
+/// The label of the statement at `s`, if that is the first to bear it.
+pub fn check_label_dup(work: &[u32], n: usize, label: Atom, s: StatementOffset) -> Owner
+    requires { ⌜ Room (now work) n × (label .0 < n) ⌝ }
+    ensures { λ r. ⌜ r ≡ own-by (owner-slot (now (work .entry)) n (label .0)) (s .0) (label .0) ⌝ }
+{
+    let Slot::At(o) = label_owner(work, n, label) else {
+        return Owner::Own(label);
+    };
+    if o == s.0 {
+        return Owner::Own(label);
+    }
+    Owner::Nothing
+}
+
+/// The state with another place in the diagnostics.
+pub fn move_to(st: Scope, diags: usize) -> Scope
+    ensures { λ r. ⌜ r ≡ moved st diags ⌝ }
+{
+    Scope {
+        es: st.es,
+        ds: st.ds,
+        diags: diags,
+    }
+}

@@ -1,0 +1,5 @@
+pub mod Kept
+pub mod Slots
+pub mod Words
+pub mod Marks
+pub mod Stacks

@@ -1,0 +1,4 @@
+pub mod Kept
+pub mod Slots
+pub mod Marks
+pub mod Stack

@@ -1,0 +1,17 @@
+pub mod Tokens
+pub mod Comments
+pub mod Reader
+pub mod Ends
+pub mod Parts
+pub mod Whole
+pub mod Fold
+pub mod Streams
+pub mod Offsets
+pub mod Weights
+pub mod Pairs
+pub mod Lengths
+pub mod Refusals
+pub mod Records
+pub mod Demand3
+pub mod Examples
+pub mod Unique

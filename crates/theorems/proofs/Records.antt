@@ -1,0 +1,181 @@
+-- Every record of both streams is sound: framed, short, with its statement's offset after length and kind.
+-- So the walk by length fields finds exactly the records.
+use mathlib.Core.Path.{_≡_, refl, sym, ap, _∙_}
+use mathlib.Core.Bool.{false}
+use mathlib.Core.List.{List, [], _∷_, _++_}
+use mathlib.Core.Option.{none}
+use Prim.Native.Nat.{ℕ, _+_, _<_, _≤_}
+use native.Mathlib.Omega.{arith}
+use lib.ListN.{length, length-append}
+use lib.Dec.{ltb}
+use borrow.Author.Tests.{eq-eqb, lt-ltb}
+use Rattle.paper.specs.Lookup.{u32-at}
+use Rattle.paper.specs.Base.{find, gather}
+use Rattle.paper.specs.Tokens.{tokens}
+use Rattle.paper.specs.Statements.{Kind, $c, $v, $d, $f, $e, $a, $p, Statement, outermost, Item, ends}
+use Rattle.paper.specs.Reader.{given, items}
+use Rattle.paper.specs.State.{State, nothing, view, plus}
+use Rattle.paper.specs.Checks.{Diag, token, check-label, check-float, check-expression, check-disjoint}
+use Rattle.paper.specs.Frames.{Frame, formula}
+use Rattle.paper.specs.Give.{Given, accept, unless, give-c, give-v, give-d, give-f, give-e, give-assertion, give-by, give, gives, all-given}
+use Rattle.paper.specs.Records.{u32, diag-record, frame-record, frame-records, diag-records, frame-stream, diag-stream}
+use Rattle.paper.specs.Answer.{crowded, frame-at, frames-in, streams}
+use Rattle.paper.proofs.Tests.{split}
+use Rattle.paper.proofs.Lists.{gather-append}
+use Rattle.paper.proofs.Sums.{total}
+use Rattle.paper.proofs.Alls.{All, all-none, all-more, all-map, all-both}
+use Rattle.paper.proofs.Searches.{all-gather, find-none, all-true}
+use Rattle.theorems.specs.TakenOut.{taken-out}
+use Rattle.theorems.specs.Demand3.{Offsets, diags-in, Exact, Walked}
+use Rattle.theorems.proofs.Reader.{statement-weight, reads-at}
+use Rattle.theorems.proofs.Ends.{ends-at}
+use Rattle.theorems.proofs.Parts.{items-read, read-reads, shown-at}
+use Rattle.theorems.proofs.Streams.{offset-framed, Sound, taken-gather}
+use Rattle.theorems.proofs.Offsets.{give-at, diags-at, frames-at}
+use Rattle.theorems.proofs.Weights.{statements-weight, text-weight, state-weight, view-weight, plus-weight, formula-light, two-light, light}
+use Rattle.theorems.proofs.Lengths.{u32-length, kind-of, rest-of, frame-framed, Short, stub-short, full-short}
+use Rattle.theorems.proofs.Refusals.{Passed, passed, answered}
+
+-- ---- frames are short
+abbrev Fit : Frame → Type 0
+Fit x = crowded x ≡ false → Short x
+
+accept-short : (d : List Diag) (r : State) {f : List Frame} → All Fit f → All Fit (accept d r f .frame)
+accept-short [] r a = a
+accept-short (x ∷ d) r a = all-none
+
+unless-short : (d : List Diag) (g : Given) → All Fit (g .frame) → All Fit (unless d g .frame)
+unless-short [] g a = a
+unless-short (x ∷ d) g a = all-none
+
+short-by : (k : Kind) (w : List Statement) (v : State) (s : Statement)
+    → state-weight v + statement-weight s ≤ 16777217 → All Fit (give-by k w v s .frame)
+unfolding give-c give-v give-d give-f give-e give-assertion
+short-by $c w v s h = split (outermost s) (λ e. rw e all-none) (λ e. rw e all-none)
+short-by $v w v s h = split (outermost s) (λ e. rw e all-none) (λ e. rw e all-none)
+short-by $d w v s h = accept-short (check-disjoint w v s) _ all-none
+short-by $f w v s h =
+    unless-short (check-label w s) _
+    (accept-short (check-float w v s) _
+    (all-more
+    (λ c.
+    stub-short (s .at) (s .end) (s .label) (token s 0 .bytes) (token s 1 .bytes)
+    (omega (arith, two-light s (s .math) refl)))
+    all-none))
+short-by $e w v s h = unless-short (check-label w s) _ (accept-short (check-expression w v s) _ all-none)
+short-by $a w v s h =
+    unless-short (check-label w s) _
+    (accept-short (check-expression w v s) _
+    (all-more (full-short 2 s v (formula w v s) (omega (arith, formula-light w v s))) all-none))
+short-by $p w v s h =
+    unless-short (check-label w s) _
+    (accept-short (check-expression w v s) _
+    (all-more (full-short 3 s v (formula w v s) (omega (arith, formula-light w v s))) all-none))
+
+gives-short : (w l : List Statement) (x : State) → state-weight x + statements-weight l ≤ 16777217
+    → All (λ g. All Fit (g .frame)) (gives w l x)
+unfolding gives give total
+gives-short w [] x h = all-none
+gives-short w (s ∷ l) x h =
+    let v = view x (s .at) in
+    let r = give w v s .records in
+    all-more (short-by (s .kind) w v s (omega (arith, view-weight x (s .at))))
+    (gives-short w l (plus x r) (omega (arith, plus-weight x r, light w v s)))
+
+-- ---- where the statements of a text stand
+pub text-at : (t : List ℕ) (i : List Item) → items (tokens t) (length t) ≡ given i
+    → All (λ s. s .at < length t) (ends i [])
+unfolding tokens
+text-at t i e =
+    ends-at (λ n. n < length t) []
+    (reads-at (λ n. n < length t) (read-reads (items-read (tokens t) (length t) i e))
+    (shown-at t 0 (λ n. n < length t) (λ n g h. omega arith) refl refl)
+    (λ n g. g))
+
+-- ---- sound records
+frame-sound : (x : Frame) → frame-at x < 4294967296 → Short x → Sound (frame-record x) (frame-at x)
+frame-sound x l h =
+    record { kind = kind-of x; rest = rest-of x; are = frame-framed x; short = h; low = l }
+
+diag-sound : (x : Diag) → x .statement < 4294967296 → Sound (diag-record x) (x .statement)
+unfolding diag-record
+diag-sound x l =
+    record {
+      kind = x .kind;
+      rest = u32 (x .index) ++ u32 (x .other);
+      are = refl;
+      short = omega (arith, length-append (u32 (x .index)) (u32 (x .other)), u32-length (x .index), u32-length (x .other));
+      low = l;
+    }
+
+frame-offset : (x : Frame) → frame-at x < 4294967296 → u32-at (frame-record x) 6 ≡ frame-at x
+frame-offset x h = rw (frame-framed x) (offset-framed (kind-of x) (frame-at x) (rest-of x) h)
+
+diag-offset : (x : Diag) → x .statement < 4294967296 → u32-at (diag-record x) 6 ≡ x .statement
+unfolding diag-record
+diag-offset x h = offset-framed (x .kind) (x .statement) (u32 (x .index) ++ u32 (x .other)) h
+
+pub offsets : Offsets
+offsets w v s h =
+    let g = give-at w v s in
+    record {
+      frame = all-true _ (all-map (λ x e. eq-eqb (u32-at (frame-record x) 6) (s .at) (frame-offset x (omega arith) ∙ e)) (g .frame));
+      diags = all-true _ (all-map (λ x e. eq-eqb (u32-at (diag-record x) 6) (s .at) (diag-offset x (omega arith) ∙ e)) (g .diags));
+    }
+
+module _ {l : List Statement} (small : All (λ s. s .at < 4294967296) l) where
+  pub diags-sound : All (λ x. Sound (diag-record x) (x .statement)) (diags-in (all-given l))
+  unfolding all-given
+  diags-sound =
+      all-map (λ x h. diag-sound x h)
+      (all-gather (λ g. g .diags) (λ g h. h) (diags-at (λ n. n < 4294967296) l small nothing))
+
+  pub frames-sound : statements-weight l ≤ 16777217 → find crowded (frames-in (all-given l)) ≡ none
+      → All (λ x. Sound (frame-record x) (frame-at x)) (frames-in (all-given l))
+  unfolding all-given total
+  frames-sound h c =
+      all-map (λ x k. frame-sound x (k .0) (k .1 .0 (k .1 .1)))
+      (all-both (all-gather (λ g. g .frame) (λ g h. h) (frames-at (λ n. n < 4294967296) l small nothing))
+      (all-both (all-gather (λ g. g .frame) (λ g h. h) (gives-short l l nothing (omega arith)))
+      (find-none crowded (frames-in (all-given l)) c)))
+
+-- ---- the streams are the records one after the other
+gather-gather : {A B C : Type 0} (f : B → List C) (g : A → List B) (l : List A)
+    → gather (λ x. gather f (g x)) l ≡ gather f (gather g l)
+unfolding gather
+gather-gather f g [] = refl
+gather-gather f g (x ∷ l) = rw (gather-gather f g l) (sym (gather-append f (g x) (gather g l)))
+
+pub frame-stream-is : (l : List Given) → frame-stream l ≡ gather frame-record (frames-in l)
+unfolding frame-stream frame-records
+frame-stream-is l = gather-gather frame-record (λ g. g .frame) l
+
+pub diag-stream-is : (l : List Given) → diag-stream l ≡ gather diag-record (diags-in l)
+unfolding diag-stream diag-records
+diag-stream-is l = gather-gather diag-record (λ g. g .diags) l
+
+-- ---- the walk finds exactly the records
+pub exact : (t : List ℕ) (w : ℕ) (l : List Statement) → Passed t w l → find crowded (frames-in (all-given l)) ≡ none
+    → (p q : ℕ) → Exact l (streams (all-given l)) p q
+exact t w l h c p q =
+    let e = h .statements in
+    let z : All (λ s. s .at < 16777216) l =
+    rw e (all-map (λ s k. omega (arith, h .small)) (text-at t (h .read) (h .reads))) in
+    let a : All (λ s. s .at < 4294967296) l = all-map (λ s k. omega arith) z in
+    let b : statements-weight l ≤ 16777217 = rw e (omega (arith, text-weight t (h .read) (h .reads), h .small)) in
+    record {
+      low = all-true (λ r. ltb (r .at) 16777216) (all-map (λ r k. lt-ltb (r .at) 16777216 k) z);
+      frames = frame-stream-is (all-given l);
+      diags = diag-stream-is (all-given l);
+      frames-stay =
+          ap (taken-out p q) (frame-stream-is (all-given l)) ∙ taken-gather frame-record frame-at p q (frames-sound a b c);
+      diags-stay =
+          ap (taken-out p q) (diag-stream-is (all-given l)) ∙ taken-gather diag-record (λ x. x .statement) p q (diags-sound a);
+    }
+
+pub walked : Walked
+walked t w f d p q l s r e =
+    let k = answered t w f d s e in
+    let a = k .passes in
+    let n : k .statements ≡ l = cc in
+    rw (← (k .are), ← n) (exact t w (k .statements) (passed t w (k .statements) (k .passes)) (k .fit .uncrowded) p q)

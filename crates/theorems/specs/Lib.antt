@@ -1,0 +1,5 @@
+pub mod Groups
+pub mod TakenOut
+pub mod Demand3
+pub mod Examples
+pub mod Unique
