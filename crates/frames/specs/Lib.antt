@@ -1,3 +1,4 @@
 pub mod Stub
 pub mod Front
 pub mod InHand
+pub mod Assert

@@ -145,6 +145,7 @@ variable-nested {n = n} {st = st} {k = k} {r = r} e pf pe es kw ne x =
           rw es
           (record {
             kept = kept-wide 10 12 2 7 (omega arith) (omega arith) (omega arith) (omega arith) kt;
+            numbers = λ i h. kt .right i 5 h (omega arith) (omega arith);
             stands = record {
               nests = rw (nested-next l k (ap (λ (y : give.Given). y .records) eg)) (rw (at-is, en-is) at (g .nests));
               floats =
@@ -211,6 +212,7 @@ module _ {w v out out′ : List ℕ} {n : ℕ} {st : Scope} {k p : ℕ} {r : Row
             rw (es, eu)
             (record {
               kept = kept-wide 10 12 2 7 (omega arith) (omega arith) (omega arith) (omega arith) kt;
+              numbers = λ i h. kt .left i 5 h (omega arith) (omega arith);
               stands = record {
                 nests = rw (nested-next l k er, append-nil (state-at l k .nested)) (nests-kept (atoms-fit b) (omega arith) kt (b .stands .nests));
                 floats =
@@ -364,6 +366,7 @@ module _ {w out out′ : List ℕ} {n : ℕ} {st : Scope} {k p : ℕ} {r : Row} 
             rw (es, eu)
             (record {
               kept = kept-wide 10 12 2 7 (omega arith) (omega arith) (omega arith) (omega arith) ks;
+              numbers = λ i h. ks .left i 5 h (omega arith) (omega arith);
               stands = record {
                 nests = rw (nested-next l k er, append-nil (state-at l k .nested)) (nests-kept (atoms-fit b) (omega arith) ks (b .stands .nests));
                 floats =
@@ -469,6 +472,7 @@ module _ {w out out′ : List ℕ} {n : ℕ} {st : Scope} {k p c a : ℕ} {r : R
             rw (es, eu)
             (record {
               kept = kept-wide 10 12 2 7 (omega arith) (omega arith) (omega arith) (omega arith) kt;
+              numbers = λ i h. kt .right i 5 h (omega arith) (omega arith);
               stands = record {
                 nests = rw (nested-next l k er, append-nil (state-at l k .nested)) (nests-kept (atoms-fit b) (omega arith) kt (b .stands .nests));
                 floats =

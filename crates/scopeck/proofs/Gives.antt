@@ -140,6 +140,7 @@ module _ {t w : List ℕ} {n : ℕ} {l : List Statement} {st : Scope} {k : ℕ} 
   quiet x m r e d g told =
       record {
         kept = kept-wide 10 12 2 7 (omega arith) (omega arith) (omega arith) (omega arith) x;
+        numbers = λ a h. x .left a 5 h (omega arith) (omega arith);
         stands = record {
           nests = rw (nested-next l k r, append-nil (state-at l k .nested)) (nests-kept atoms-fit (omega arith) x (b .stands .nests));
           floats =

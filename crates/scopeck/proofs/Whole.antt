@@ -135,6 +135,9 @@ module _ {t w v u out out′ : List ℕ} {n : ℕ} {l : List Statement} {st s : 
       kept-then (kept-wide 8 12 2 7 (omega arith) (omega arith) (omega arith) (omega arith) (g .kept))
       (kept-wide 8 12 2 7 (omega arith) (omega arith) (omega arith) (omega arith) mark-kept)
 
+  pub after-numbers : (a : ℕ) → a < n → word u (symbol-cell n a 5) ≡ word w (symbol-cell n a 5)
+  after-numbers a h = mark-kept .left a 5 h (omega arith) (omega arith) ∙ g .numbers a h
+
   atoms-in : length (atoms l) ≤ n
   atoms-in = omega (arith, b .named .few)
 
@@ -178,6 +181,7 @@ pub steps-of : {t w v u out out′ : List ℕ} {n : ℕ} {st s : Scope} {k o es 
 steps-of x eo ee ed g eu =
     record {
       kept = after-kept (x .holds) eu (g .sim (ready-of (x .holds) eo ee ed));
+      numbers = after-numbers (x .holds) eu (g .sim (ready-of (x .holds) eo ee ed));
       sim = λ {l} b. after-of b eu (g .sim (ready-of b eo ee ed));
     }
 

@@ -60,6 +60,7 @@ pub record After (w v out out′ : List ℕ) (n : ℕ) (l : List Statement) (st 
 
 pub record Steps (t w v out out′ : List ℕ) (n : ℕ) (st st′ : Scope) (k : ℕ) : Type 0 where
   pub kept : Kept n 8 12 2 7 w v
+  pub numbers : (a : ℕ) → a < n → word v (symbol-cell n a 5) ≡ word w (symbol-cell n a 5)
   pub sim : {l : List Statement} → Before t w n l st k → After w v out out′ n l st st′ k
 
 -- ---- what is recorded for the names is taken away: the end of the nested `$v`, and the `$f`

@@ -9,7 +9,7 @@ use lib.ListN.{length, take, drop}
 use Rattle.paper.specs.Base.{choose, gather}
 use Rattle.paper.specs.Statements.{Statement}
 use Rattle.paper.specs.Records.{diag-record}
-use Rattle.area.specs.Cells.{statement-cell, word}
+use Rattle.area.specs.Cells.{statement-cell, symbol-cell, word}
 use Rattle.reader.specs.Rows.{stmt}
 use Rattle.facts.specs.Facts.{Facts}
 use Rattle.facts.specs.States.{state-at, given-at}
@@ -77,6 +77,8 @@ pub record Ready (t w : List ℕ) (n : ℕ) (l : List Statement) (st : Scope) (k
 
 pub record Given (w v out out′ : List ℕ) (n : ℕ) (l : List Statement) (st st′ : Scope) (k : ℕ) : Type 0 where
   pub kept : Kept n 10 12 2 7 w v
+  -- the numbers of a frame's variables are left alone
+  pub numbers : (a : ℕ) → a < n → word v (symbol-cell n a 5) ≡ word w (symbol-cell n a 5)
   pub stands : Stands v n l st′ (k + 1) (stmt l k .at)
   pub told : Wrote out out′ (st .diags) (st′ .diags) (gather diag-record (given-at l k .diags))
 

@@ -1,0 +1,39 @@
+// The frame of an accepted assertion (carries construct_full_frame; scan_expression and scan_dv are the walks of `sight`).
+// Variables are numbered, the record is written, and the numbers are taken away again.
+ghost use Prim.Native.Nat.{_<_, _^_};
+ghost use Rattle.frames.specs.Assert.{SomeFraming, Frames};
+
+/// The place after the record, or too many variables.
+pub enum Built {
+    After(usize),
+    TooMany,
+}
+
+/// The most variables of a frame.
+pub const MOST_VARIABLES: usize = 4095;
+
+/// Stores the frame of the assertion in a row, with `es` active `$e` and `ds` active `$d`.
+pub fn construct_full_frame(
+    text: &[u8],
+    work: &mut [u32],
+    n: usize,
+    buf: &mut [u8],
+    at: usize,
+    row: usize,
+    es: usize,
+    ds: usize,
+) -> Built
+    requires { ⌜ SomeFraming (now text) (now work) n row es ds × (at < 2 ^ 56) ⌝ }
+    ensures { λ r. ⌜ Frames (now (text .entry)) (now (work .entry)) (now (work .exit)) n row es ds (now (buf .entry)) (now (buf .exit)) at r ⌝ }
+{
+    let active = sight::scan_all(work, n, 0, area::ESS, es, 1);
+    let mandatory = sight::scan(work, n, active, row, 1);
+    let vars = sight::scan_all(work, n, mandatory, area::DIS, ds, 0);
+    if MOST_VARIABLES < vars {
+        sight::forget(work, n, vars);
+        return Built::TooMany;
+    }
+    let after = crate::full::put_frame(text, work, n, buf, at, row, es, ds, vars, mandatory);
+    sight::forget(work, n, vars);
+    Built::After(after)
+}
