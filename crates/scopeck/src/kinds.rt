@@ -106,7 +106,7 @@ pub fn scope_check_float(
     let typecode = Atom(of_math(work, n, x.first));
     let variable = Atom(of_math(work, n, x.first + 1));
     let p = check_float(work, n, diags, st.diags, typecode, variable, x.at);
-    if p != st.diags {
+    if st.diags != p {
         return move_to(st, p);
     }
     record_float(work, n, variable, row);

@@ -65,7 +65,7 @@ same-length-4 : tie.Need-same-length-4
 same-length-4 c = search needs
 
 returns-2 : tie.Need-returns-2
-returns-2 c = float-rejected (c .before .before .before .before .before .before .before .before .before .before .before .before .before .before .before .before .before .read-row .ensures) (c .before .before .before .before .before .before .before .before .before .before .before .before .before .before .before .before .before .before .before .before .before .pre .1) (sym (c .before .before .before .before .before .before .before .before .before .before .before .before .before .enum-told .given .1) ∙ c .before .before .before .before .before .before .before .before .before .before .before .before .before .before .before .check-label-dup .ensures) (c .before .before .before .before .before .before .before .before .before .before .before .of-math .ensures) (c .before .before .before .before .before .before .before .before .of-math2 .ensures) (c .before .before .before .before .before .check-float .ensures) (c .move-to2 .ensures) (c .before .if1 .taken)
+returns-2 c = float-rejected (c .before .before .before .before .before .before .before .before .before .before .before .before .before .before .before .before .before .read-row .ensures) (c .before .before .before .before .before .before .before .before .before .before .before .before .before .before .before .before .before .before .before .before .before .pre .1) (sym (c .before .before .before .before .before .before .before .before .before .before .before .before .before .enum-told .given .1) ∙ c .before .before .before .before .before .before .before .before .before .before .before .before .before .before .before .check-label-dup .ensures) (c .before .before .before .before .before .before .before .before .before .before .before .of-math .ensures) (c .before .before .before .before .before .before .before .before .of-math2 .ensures) (c .before .before .before .before .before .check-float .ensures) (c .move-to2 .ensures) (λ q. c .before .if1 .taken (sym q))
 
 record-float-requires : tie.Need-record-float-requires
 record-float-requires c κs = let b = (c .before .before .before .before .before .before .before .before .before .before .before .before .before .before .before .before .before .before .before .before .before .pre .0 .holds) in (b .room, can-float b (c .before .before .before .before .before .before .before .before .before .before .before .before .before .before .before .before .before .read-row .ensures) (c .before .before .before .before .before .before .before .before .before .before .before .before .before .before .before .before .before .before .before .before .before .pre .1) (c .before .before .before .before .before .before .before .before .before .before .before .of-math .ensures) (c .before .before .before .before .before .before .before .before .of-math2 .ensures) .1 .atom, omega (arith, row-room b))
@@ -80,7 +80,7 @@ same-length-6 : tie.Need-same-length-6
 same-length-6 c = search needs
 
 returns-3 : tie.Need-returns-3
-returns-3 c = float-accepted (c .before .before .before .before .before .before .before .before .before .before .before .before .before .before .before .before .before .before .before .before .before .read-row .ensures) (c .before .before .before .before .before .before .before .before .before .before .before .before .before .before .before .before .before .before .before .before .before .before .before .before .before .pre .1) (sym (c .before .before .before .before .before .before .before .before .before .before .before .before .before .before .before .before .before .enum-told .given .1) ∙ c .before .before .before .before .before .before .before .before .before .before .before .before .before .before .before .before .before .before .before .check-label-dup .ensures) (c .before .before .before .before .before .before .before .before .before .before .before .before .before .before .before .of-math .ensures) (c .before .before .before .before .before .before .before .before .before .before .before .before .of-math2 .ensures) (c .before .before .before .before .before .before .before .before .before .check-float .ensures) (c .move-to3 .ensures) (c .before .before .before .before .before .if1 .left) (c .before .before .before .record-float .ensures)
+returns-3 c = float-accepted (c .before .before .before .before .before .before .before .before .before .before .before .before .before .before .before .before .before .before .before .before .before .read-row .ensures) (c .before .before .before .before .before .before .before .before .before .before .before .before .before .before .before .before .before .before .before .before .before .before .before .before .before .pre .1) (sym (c .before .before .before .before .before .before .before .before .before .before .before .before .before .before .before .before .before .enum-told .given .1) ∙ c .before .before .before .before .before .before .before .before .before .before .before .before .before .before .before .before .before .before .before .check-label-dup .ensures) (c .before .before .before .before .before .before .before .before .before .before .before .before .before .before .before .of-math .ensures) (c .before .before .before .before .before .before .before .before .before .before .before .before .of-math2 .ensures) (c .before .before .before .before .before .before .before .before .before .check-float .ensures) (c .move-to3 .ensures) (sym (c .before .before .before .before .before .if1 .left)) (c .before .before .before .record-float .ensures)
 
 pub scope-check-float-spec : {M : Type 1} → statement M
 scope-check-float-spec =
