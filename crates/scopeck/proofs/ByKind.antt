@@ -15,7 +15,8 @@ use Rattle.paper.specs.Statements.{Kind, $c, $v, $d, $f, $e, $a, $p, labelled, 
 use Rattle.paper.specs.Names.{owner, declarations}
 use Rattle.paper.specs.State.{Nested, Hyp, essential, State, nothing, active-nested, active-hyp, view, float-of, sense}
 use Rattle.paper.specs.Checks.{Diag, diag, token, check-label, check-outer, nested-records, nested-diags, typecode-diags, variable-diags, if-none, float-diags, check-float, check-expression, check-disjoint}
-use Rattle.paper.specs.Frames.{Frame, stub, formula, frame-of}
+use Rattle.paper.specs.Variables.{formula}
+use Rattle.paper.specs.Frames.{Frame, stub, frame-of}
 use Rattle.paper.specs.Give as give
 use Rattle.paper.specs.Records.{diag-record}
 use Rattle.paper.specs.declared.Atom.{Atom}
