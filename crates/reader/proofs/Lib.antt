@@ -7,3 +7,4 @@ pub mod Bodies
 pub mod Items
 pub mod Backs
 pub mod Wholes
+pub mod Dollars

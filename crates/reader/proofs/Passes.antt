@@ -58,12 +58,6 @@ module _ {t : List ℕ} (i : ℕ) {x : Span} (s : tokens-from t i ≡ tokens-fro
   unfolding after visible
   one p = record { pre = token-of t x ∷ []; split = s ∙ h .here; shows = refl; place = refl }
 
-  pub pass-hidden : key 41 (token-of t x) ≡ false → (p : ℕ) → Passed t i (x .stop) (inside p) [] (inside p)
-  pass-hidden e p = rw e at (one (inside p))
-
-  pub pass-close : key 41 (token-of t x) ≡ true → (p : ℕ) → Passed t i (x .stop) (inside p) [] outside
-  pass-close e p = rw e at (one (inside p))
-
   pub pass-open : key 40 (token-of t x) ≡ true → Passed t i (x .stop) outside [] (inside (x .start))
   pass-open e = rw e at (one outside)
 

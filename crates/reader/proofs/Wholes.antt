@@ -118,7 +118,7 @@ module _ {t w : List ℕ} {n : ℕ} {s : State} (f : Finished t w n s) where
         less = f .few;
       }
 
-  module _ {u v : List ℕ} (e : Ended w u n (s .rows) (s .items)) (c : Cleared (7 * n) (15 * n) u v) where
+  module _ {u c v : List ℕ} (e : Ended w u n (s .rows) (s .items)) (c₁ : Cleared (7 * n) (7 * n + s .items) u c) (c₂ : Cleared (8 * n) (8 * n + s .items) c v) where
     abbrev all : List Statement
     all = ends (f .found) []
 
@@ -127,10 +127,10 @@ module _ {t w : List ℕ} {n : ℕ} {s : State} (f : Finished t w n s) where
 
     -- a word below the cleared ones, and one above
     low : (i : ℕ) → i < 7 * n → word v i ≡ word u i
-    low i l = c .only .below i l
+    low i l = c₂ .only .below i (omega arith) ∙ c₁ .only .below i l
 
-    high : (i : ℕ) → 15 * n ≤ i → word v i ≡ word w i
-    high i l = c .only .above i l ∙ e .aside .above i l
+    high : (i : ℕ) → 8 * n + s .items ≤ i → word v i ≡ word w i
+    high i l = c₂ .only .above i l ∙ c₁ .only .above i (omega arith) ∙ e .aside .above i l
 
     row : (r : ℕ) → r < length all → Row t v n r (stmt all r) (before all r)
     row r l =
@@ -140,7 +140,7 @@ module _ {t w : List ℕ} {n : ℕ} {s : State} (f : Finished t w n s) where
         let k : Row t v n r (stmt (stated (f .found)) r) (before (stated (f .found)) r) =
         row-same (f .words .kept r a)
         (λ o b q. low (statement-cell r o) (omega (arith, f .few)) ∙ e .aside .kept r o a b q)
-        (λ j b. high (math-cell n (before (stated (f .found)) r + j)) (omega arith)) in
+        (λ j b. high (math-cell n (before (stated (f .found)) r + j)) (omega (arith, f .items-few))) in
         rw (ends-before (f .found) [] r, ends-stmt (f .found) [] r (omega (arith, f .words .stated-rows))) (row-ended (stmt all r .end) k)
 
     end-of : (r : ℕ) → r < length all → word v (statement-cell r 7) ≡ stmt all r .end
@@ -152,19 +152,39 @@ module _ {t w : List ℕ} {n : ℕ} {s : State} (f : Finished t w n s) where
     all-maths : before all (length all) ≡ s .maths
     all-maths = rw count (ends-before (f .found) [] (s .rows) ∙ f .words .all-maths)
 
+    -- the item words and the stack are cleared, and what stands around them was 0
+    beside : (i : ℕ) → 7 * n ≤ i → i < 15 * n → word v i ≡ 0
+    beside i a b =
+        let few = f .items-few in
+        split (ltb i (7 * n + s .items))
+        (λ q.
+        let l : i < 7 * n + s .items = ltb-true i (7 * n + s .items) q in
+        c₂ .only .below i (omega arith) ∙ c₁ .zeros i a l)
+        (λ q.
+        let l : 7 * n + s .items ≤ i = ltb-false i (7 * n + s .items) q in
+        split (ltb i (8 * n))
+        (λ p.
+        let m : i < 8 * n = ltb-true i (8 * n) p in
+        c₂ .only .below i m ∙ c₁ .only .above i l ∙ e .aside .rest i (omega (arith, f .few)) m ∙ f .words .fresh i l b)
+        (λ p.
+        let m : 8 * n ≤ i = ltb-false i (8 * n) p in
+        split (ltb i (8 * n + s .items))
+        (λ r. c₂ .zeros i m (ltb-true i (8 * n + s .items) r))
+        (λ r. high i (ltb-false i (8 * n + s .items) r) ∙ f .words .fresh i l b)))
+
     between : (i : ℕ) → 12 * length all ≤ i → i < 15 * n → word v i ≡ 0
     between i a b =
         split (ltb i (7 * n))
         (λ q.
         let l : i < 7 * n = ltb-true i (7 * n) q in
         low i l ∙ e .aside .rest i (omega (arith, count)) (omega arith) ∙ f .words .blank i (omega (arith, count)) l)
-        (λ q. c .zeros i (ltb-false i (7 * n) q) b)
+        (λ q. beside i (ltb-false i (7 * n) q) b)
 
     shape : Shape t v n all
     shape =
         record {
           rows = f .words .size;
-          room = omega (arith, f .words .room, e .aside .len, c .only .len);
+          room = omega (arith, f .words .room, e .aside .len, c₁ .only .len, c₂ .only .len);
           short = f .words .short;
           few = omega (arith, f .few, count);
           maths = omega (arith, f .maths, all-maths);
@@ -188,7 +208,7 @@ module _ {t w : List ℕ} {n : ℕ} {s : State} (f : Finished t w n s) where
           stands = λ r j l. row r l .stands j;
           statement-rest = λ r o l. row r l .rest o;
           between = between;
-          above = λ i l. high i (omega arith) ∙ f .words .above i (omega (arith, all-maths));
+          above = λ i l. high i (omega (arith, f .items-few)) ∙ f .words .above i (omega (arith, all-maths));
         }
 
     pub text-read : (m : ℕ) → length v ≡ m → Answers t v m (with-ends (items (tokens t) (length t))) (Read (s .rows) (s .maths))

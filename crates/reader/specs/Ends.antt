@@ -57,11 +57,11 @@ pub record EndsRoom (w : List ℕ) (n rows items : ℕ) : Type 0 where
   pub less : 3 * rows < n
 
 -- only ends and the stack may differ
-pub record Aside (w v : List ℕ) (n rows : ℕ) : Type 0 where
+pub record Aside (w v : List ℕ) (n rows items : ℕ) : Type 0 where
   pub len : length v ≡ length w
   pub kept : (s c : ℕ) → s < rows → c < 12 → c ≢ 7 → word v (statement-cell s c) ≡ word w (statement-cell s c)
   pub rest : (c : ℕ) → 12 * rows ≤ c → c < 8 * n → word v c ≡ word w c
-  pub above : (c : ℕ) → 15 * n ≤ c → word v c ≡ word w c
+  pub above : (c : ℕ) → 8 * n + items ≤ c → word v c ≡ word w c
 
 -- from item j on, ends are found
 pub record Found (w : List ℕ) (n : ℕ) (i : List Item) (rows j row d : ℕ) : Type 0 where
@@ -70,11 +70,11 @@ pub record Found (w : List ℕ) (n : ℕ) (i : List Item) (rows j row d : ℕ) :
   pub ends-from : (s : ℕ) → row ≤ s → s < rows → word w (statement-cell s 7) ≡ stmt (ends (drop j i) []) (s - row) .end
 
 pub record Backward (w v : List ℕ) (n rows items j row d : ℕ) : Type 0 where
-  pub aside : Aside w v n rows
+  pub aside : Aside w v n rows items
   pub upto : j ≤ items
   pub deep : d + j ≤ items
   pub sim : (i : List Item) → Events w n i rows items → Found v n i rows j row d
 
 pub record Ended (w v : List ℕ) (n rows items : ℕ) : Type 0 where
-  pub aside : Aside w v n rows
+  pub aside : Aside w v n rows items
   pub sim : (i : List Item) → Events w n i rows items → (s : ℕ) → s < rows → word v (statement-cell s 7) ≡ stmt (ends i []) s .end

@@ -1,5 +1,6 @@
 // Tokens outside comments, one after the other.
 // A comment runs from the token `$(` to the next token that is exactly `$)`.
+use token::class::class_of;
 use token::cursor::Cursor;
 use token::cursor::KEY_COMMENT;
 use token::cursor::KEY_COMMENT_END;
@@ -8,6 +9,10 @@ use token::cursor::Span;
 use token::cursor::is_key;
 ghost use mathlib.Core.Path.{_≡_};
 ghost use Rattle.token.specs.Class.{classes};
+ghost use Prim.Native.Nat.{_+_, _<_, _≤_};
+ghost use lib.ListN.{length, drop};
+ghost use Rattle.paper.specs.Base.{and};
+ghost use Rattle.reader.specs.Dollar.{Dollar, gap-first, shuts, opens-at};
 ghost use Rattle.reader.specs.Passed.{Commented, Looked, Seen};
 
 /// Where a comment closes: the place after its `$)`, or nowhere.
@@ -31,24 +36,76 @@ pub enum Visible {
     End,
 }
 
-/// The end of the comment in which `at` stands.
-pub fn comment_end(table: &[u8; 256], text: &[u8], at: usize) -> Comment
+/// The first `$` from `at` on, or the length.
+pub fn next_dollar(text: &[u8], at: usize) -> usize
+    requires { ⌜ at ≤ length (now text) ⌝ }
+    ensures { λ r. ⌜ Dollar (now (text .entry)) at r ⌝ }
+{
+    let mut i = at;
+    while i < text.len() {
+        if text[i] == 36 {
+            return i;
+        }
+        i += 1;
+    }
+    i
+}
+
+/// Whether white space stands at `i`, or the text ends there.
+pub fn gap_at(table: &[u8; 256], text: &[u8], i: usize) -> bool
     requires { ⌜ now table ≡ classes ⌝ }
+    ensures { λ r. ⌜ r ≡ gap-first (drop i (now (text .entry))) ⌝ }
+{
+    if text.len() <= i {
+        return true;
+    }
+    class_of(table, text[i]) == 1
+}
+
+/// Whether a token may start at `i`, in a comment that goes on from `at`.
+pub fn opens_here(table: &[u8; 256], text: &[u8], at: usize, i: usize) -> bool
+    requires { ⌜ (now table ≡ classes) × (at ≤ i) × (i < length (now text)) ⌝ }
+    ensures { λ r. ⌜ r ≡ opens-at (now (text .entry)) at i ⌝ }
+{
+    if i == at {
+        return true;
+    }
+    class_of(table, text[i - 1]) == 1
+}
+
+/// Whether the token `$)` starts at `i`, where a `$` stands in a comment that goes on from `at`.
+pub fn closes_at(table: &[u8; 256], text: &[u8], at: usize, i: usize) -> bool
+    requires { ⌜ (now table ≡ classes) × (at ≤ i) × (i < length (now text)) ⌝ }
+    ensures { λ r. ⌜ r ≡ and (opens-at (now (text .entry)) at i) (shuts (drop (i + 1) (now (text .entry)))) ⌝ }
+{
+    if !opens_here(table, text, at, i) {
+        return false;
+    }
+    let j = i + 1;
+    if text.len() <= j {
+        return false;
+    }
+    if text[j] != 41 {
+        return false;
+    }
+    gap_at(table, text, j + 1)
+}
+
+/// The end of the comment that goes on from `at`, the place after its `$(`.
+pub fn comment_end(table: &[u8; 256], text: &[u8], at: usize) -> Comment
+    requires { ⌜ (now table ≡ classes) × (at ≤ length (now text)) ⌝ }
     ensures { λ r. ⌜ Commented (now (text .entry)) at r ⌝ }
 {
-    let mut c = Cursor { at: at };
+    let mut i = at;
     loop {
-        match c.next(table, text) {
-            Next::Token(x, d) => {
-                let start = x.start;
-                let stop = x.stop;
-                if is_key(&text[start..stop], KEY_COMMENT_END) {
-                    return Comment::Closed(stop);
-                }
-                c = d;
-            }
-            Next::Done => return Comment::Never,
+        let k = next_dollar(text, i);
+        if text.len() <= k {
+            return Comment::Never;
         }
+        if closes_at(table, text, at, k) {
+            return Comment::Closed(k + 2);
+        }
+        i = k + 1;
     }
 }
 

@@ -78,7 +78,7 @@ pub fn most_of(kind: u32) -> usize
     ensures { λ r. ⌜ r ≡ most-number kind ⌝ }
 {
     if kind == 4 {
-        return 2;
+        return 2; // a `$f` has exactly two
     }
     16777217
 }

@@ -58,7 +58,8 @@ pub fn read_text(table: &[u8; 256], text: &[u8], work: &mut [u32], n: usize) -> 
         }
         All::Done(s) => {
             set_ends(work, n, s.rows, s.items);
-            clear_part(work, 7 * n, 15 * n);
+            clear_part(work, 7 * n, 7 * n + s.items);
+            clear_part(work, 8 * n, 8 * n + s.items);
             Reading::Read(s.rows, s.maths)
         }
     }

@@ -23,7 +23,7 @@ within-le lo hi n e =
     (λ p. (leb-true lo n p, leb-true n hi (rw p at e)))
     (λ p. absurd (clash (sym (rw p at e))))
 
-white-low : (b : ℕ) → white b ≡ true → b ≤ 32
+pub white-low : (b : ℕ) → white b ≡ true → b ≤ 32
 unfolding white
 white-low b e =
     by-or (within 9 10 b) _ e (λ p. omega (arith, within-le 9 10 b p))

@@ -52,7 +52,7 @@ unfolding key
 returns-3 c = look-plain (took (c .before .before .before .before .before)) (sym (c .before .is-key .ensures) ∙ not-true _ (c .if2 .taken))
 
 comment-end-requires : tie.Need-comment-end-requires
-comment-end-requires c κs = search needs
+comment-end-requires c κs = (c .before .before .before .before .before .before .before .before .before .before .pre, took (c .before .before .before .before .before) .whole .within)
 
 enum-known-after : tie.Need-enum-known-after
 enum-known-after c = search needs
