@@ -1,20 +1,17 @@
 -- The tokens of a part of the text outside comments, and the math tokens of a statement as those of its part.
 -- Assumes nothing.
 use mathlib.Core.Path.{_≡_, refl, sym, ap, _∙_}
-use mathlib.Core.Bool.{Bool, true, false}
 use mathlib.Core.List.{List, [], _∷_, _++_, map, append-nil}
-use Prim.Native.Nat.{ℕ, zero, suc, _+_, _-_, _<_, _≤_}
+use Prim.Native.Nat.{ℕ, _+_, _-_}
 use native.Mathlib.Nat.{le-refl}
 use native.Mathlib.Omega.{arith}
-use lib.ListN.{length, getD, take, drop, replicate, length-append, length-replicate, drop-of-length-le}
+use lib.ListN.{length, take, drop, replicate, length-append, length-replicate, drop-of-length-le}
 use lib.Seq.{drop-at, take-length}
-use Rattle.paper.specs.Base.{choose, sameb}
-use Rattle.paper.specs.Bytes.{white}
-use Rattle.paper.specs.Tokens.{Token, put, run, toks, key}
-use Rattle.paper.specs.Comments.{Place, outside, inside, next, shown, visible}
+use Rattle.paper.specs.Tokens.{Token, run, toks, key}
+use Rattle.paper.specs.Comments.{Place, outside, inside, visible}
 use Rattle.paper.proofs.Tests.{split}
 use Rattle.paper.proofs.Comments.{visible-append}
-use Rattle.token.specs.Words.{tokens-from, token-at, move}
+use Rattle.token.specs.Words.{tokens-from, move}
 use Rattle.token.specs.declared.cursor.Span.{Span}
 use Rattle.reader.specs.Passed.{Passed, Shows}
 use Rattle.reader.proofs.Passes.{tokens-end, passed-shows}

@@ -1,32 +1,31 @@
 -- What the look-ups found calls for the definitions' diagnostics.
 -- Assumes nothing.
-use mathlib.Core.Path.{_≡_, refl, sym, ap, _∙_}
+use mathlib.Core.Path.{_≡_, refl, _∙_}
 use mathlib.Core.Bool.{Bool, true, false}
 use mathlib.Core.List.{List, [], _∷_, _++_}
 use mathlib.Core.Option.{Option, none, some}
-use Prim.Native.Nat.{ℕ, zero, suc, _+_, _*_, _<_, _≤_}
+use Prim.Native.Nat.{ℕ, zero, suc, _*_}
 use native.Mathlib.Omega.{arith}
-use lib.Dec.{eqb, ltb}
+use lib.Dec.{ltb}
 use lib.ListN.{length, length-append}
 use borrow.Author.Tests.{ne-eqb}
 use Rattle.paper.specs.Base.{choose, gather}
 use Rattle.paper.specs.Tokens.{Token}
 use Rattle.paper.specs.Statements.{Statement}
 use Rattle.paper.specs.Names.{Declared}
-use Rattle.paper.specs.State.{Nested, Hyp, hyp-at, Sense, inactive, constant, variable}
-use Rattle.paper.specs.Checks.{Diag, diag, label-diags, clash, redeclared, against, record-it, by-known, by-declared, float-diags, missing, placed, symbol-diags, first-index, disjoint-diags}
+use Rattle.paper.specs.State.{Nested, Sense, inactive, constant, variable}
+use Rattle.paper.specs.Checks.{Diag, diag, label-diags, clash, redeclared, against, by-known, by-declared, float-diags, symbol-diags, first-index, disjoint-diags}
 use Rattle.paper.specs.Records.{framed, diag-record}
 use Rattle.paper.proofs.Tests.{split}
 use Rattle.reader.specs.Rows.{stmt}
 use Rattle.stream.proofs.Records.{length-u16, length-u32}
 use Rattle.slots.specs.declared.Slot.{Slot}
 use Rattle.slots.specs.declared.Slot.the-variants.{At, Nothing}
-use Rattle.slots.specs.declared.Global.{Global}
 use Rattle.slots.specs.declared.Global.the-variants as g
 use Rattle.slots.specs.Slots.{owner-of, global-of, nested-at, float-hyp, float-at, checked-of}
 use Rattle.slots.specs.Marks.{first-in}
 use Rattle.slots.proofs.Marks.{repeat-is}
-use Rattle.checks.specs.Found.{sense-of, label-by, clash-by, again, redeclared-by, verdict-known, verdict-by, verdict-is, float-by, missing-by, symbol-by, disjoint-by}
+use Rattle.checks.specs.Found.{sense-of, label-by, clash-by, again, redeclared-by, verdict-by, verdict-is, symbol-by, disjoint-by}
 
 pub label-is : (o : Option Token) (z : Statement) → label-by (owner-of o) (z .at) ≡ label-diags o z
 label-is none z = refl

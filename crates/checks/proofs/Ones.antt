@@ -2,39 +2,35 @@
 -- Assumes nothing.
 use mathlib.Core.Path.{_≡_, refl, sym, ap, _∙_}
 use mathlib.Core.Logic.{_≢_}
-use mathlib.Core.Bool.{Bool, true, false}
 use mathlib.Core.List.{List, [], _∷_, _++_, append-nil}
 use mathlib.Core.Option.{Option, none, some}
-use Prim.Native.Nat.{ℕ, suc, _+_, _-_, _*_, _<_, _≤_}
+use Prim.Native.Nat.{ℕ, _+_, _-_, _<_, _≤_}
 use native.Mathlib.Nat.{le-refl}
 use native.Mathlib.Omega.{arith}
 use lib.Dec.{eqb, ltb}
-use lib.ListN.{length, length-append}
-use borrow.Author.Tests.{eqb-true}
-use Rattle.paper.specs.Base.{choose, gather, keep}
+use lib.ListN.{length}
+use Rattle.paper.specs.Base.{gather, keep}
 use Rattle.paper.specs.Tokens.{Token}
 use Rattle.paper.specs.Statements.{Statement}
 use Rattle.paper.specs.Names.{owner, Declared, global}
-use Rattle.paper.specs.State.{Nested, Hyp, State, active-nested, active-hyp, nested-of, float-of, view, sense, Sense, inactive, constant, variable}
-use Rattle.paper.specs.Checks.{Diag, diag, token, check-label, label-diags, clash, redeclared, outer-token, by-known, by-declared, verdict, verdict-diags, recorded-by, records, against, record-it, typecode-diags, variable-diags, float-diags, if-none, check-float, symbol-diags, symbol-token, first-index, disjoint-diags}
+use Rattle.paper.specs.State.{Nested, Hyp, State, active-nested, active-hyp, nested-of, float-of, view, sense, Sense, constant}
+use Rattle.paper.specs.Checks.{Diag, token, check-label, clash, redeclared, by-known, by-declared, verdict, verdict-diags, records, against, record-it, typecode-diags, variable-diags, float-diags, if-none, check-float}
 use Rattle.paper.specs.Records.{diag-record}
 use Rattle.paper.proofs.Tests.{split, eqb-ne}
-use Rattle.paper.proofs.Options.{none-some}
 use Rattle.area.specs.Cells.{statement-cell, symbol-cell, word}
 use Rattle.reader.specs.Rows.{stmt}
-use Rattle.nameck.specs.Atoms.{atoms, name-of}
 use Rattle.nameck.specs.Named.{Named}
 use Rattle.stream.specs.Wrote.{Wrote}
 use Rattle.stream.specs.Diagnostic.{diagnostic}
-use Rattle.stream.proofs.Wrote.{wrote-then, wrote-as}
+use Rattle.stream.proofs.Wrote.{wrote-as}
 use Rattle.stream.proofs.Records.{wrote-diag}
 use Rattle.slots.specs.declared.Slot.{Slot}
 use Rattle.slots.specs.declared.Slot.the-variants.{At, Nothing}
 use Rattle.slots.specs.declared.Global.{Global}
 use Rattle.slots.specs.declared.CheckedToken.{CheckedToken}
-use Rattle.slots.specs.Kept.{Room, Kept}
-use Rattle.slots.specs.Slots.{owner-slot, owner-of, global-slot, global-of, nested-slot, nested-at, float-slot, float-at, sense-word, checked-of, with-nested, Nests, Floats, Atomic, Apart}
-use Rattle.slots.specs.Marks.{first-in, mark-slot, marked-by, Marks}
+use Rattle.slots.specs.Kept.{Room}
+use Rattle.slots.specs.Slots.{owner-slot, owner-of, global-slot, global-of, nested-slot, nested-at, float-slot, float-at, sense-word, checked-of, with-nested, Floats, Atomic}
+use Rattle.slots.specs.Marks.{first-in, mark-slot, marked-by}
 use Rattle.slots.proofs.Kept.{kept-none}
 use Rattle.slots.proofs.Slots.{kept-nested, nests-put}
 use Rattle.slots.proofs.Words.{owner-slot-is, global-slot-is, sense-word-is}
@@ -43,7 +39,7 @@ use Rattle.paper.specs.Checks as paper
 use Rattle.checks.specs.declared.Verdict.{Verdict}
 use Rattle.checks.specs.declared.Verdict.the-variants as verdict-case
 use Rattle.checks.specs.Found.{sense-of, label-by, clash-by, redeclared-by, verdict-by, verdict-is, float-by, symbol-by, disjoint-by}
-use Rattle.checks.specs.Tokens.{Can, Clashes, Outer, Judged, NestedOne, NestedToken, Sees, EapToken, DvOne, DvToken, offset-of, earlier-slot, Float, Label}
+use Rattle.checks.specs.Tokens.{Clashes, Outer, Judged, NestedToken, Sees, EapToken, DvToken, earlier-slot, Float, Label}
 use Rattle.checks.proofs.Told.{told-then}
 use Rattle.checks.proofs.Found.{label-is, clash-is, redeclared-is, verdict-by-is, sense-checked, symbol-is, disjoint-is, float-at-is, told-length, none-told}
 
@@ -105,9 +101,6 @@ judged-one {w} {n} {a} {o} {s} {r} e =
           ∙ verdict-by-is d o f
           ∙ ap (λ (b : ℕ). by-declared d b (by-known f)) (sym m);
     }
-
-against-is : {k o k′ o′ : ℕ} → against k o ≡ against k′ o′ → (k ≡ k′) × (o ≡ o′)
-against-is e = (cc, cc)
 
 known-none : (w : List Statement) (x : List Nested) (y : Token) → verdict w x y ≡ record-it → nested-of x (y .bytes) ≡ none
 unfolding verdict

@@ -2,28 +2,27 @@
 -- Assumes nothing.
 use mathlib.Core.Path.{_≡_, refl, sym, ap, _∙_}
 use mathlib.Core.List.{List, [], _∷_, _++_, map, append-nil, append-assoc}
-use Prim.Native.Nat.{ℕ, zero, suc, _+_, _-_, _*_, _<_, _≤_, _^_}
+use Prim.Native.Nat.{ℕ, zero, suc, _+_, _*_, _<_, _≤_}
 use native.Mathlib.Nat.{not-suc-le-zero}
 use native.Mathlib.Omega.{arith}
-use lib.ListN.{length, getD, take, drop, length-map, length-drop}
+use lib.ListN.{length, getD, take, drop, length-drop}
 use Rattle.paper.specs.Base.{gather, keep}
 use Rattle.paper.specs.Tokens.{Token}
 use Rattle.paper.specs.Statements.{Statement}
 use Rattle.paper.specs.State.{Nested, active-nested}
-use Rattle.paper.specs.Checks.{Diag, each, no-token, token, outer-token, check-outer, records, nested-records, nested-diags}
+use Rattle.paper.specs.Checks.{each, no-token, token, outer-token, check-outer, records, nested-records, nested-diags}
 use Rattle.paper.specs.Records.{diag-record}
 use Rattle.paper.proofs.Lists.{keep-append}
 use Rattle.area.specs.Cells.{math-cell, word}
-use Rattle.reader.specs.Rows.{stmt, before}
-use Rattle.nameck.specs.Atoms.{atoms}
+use Rattle.reader.specs.Rows.{stmt}
 use Rattle.stream.specs.Wrote.{Wrote}
 use Rattle.token.specs.Words.{token-at, move}
-use Rattle.slots.specs.Kept.{Room, Kept}
-use Rattle.slots.specs.Slots.{Nests, Atomic, Apart}
+use Rattle.slots.specs.Kept.{Kept}
+use Rattle.slots.specs.Slots.{Nests, Apart}
 use Rattle.slots.proofs.Kept.{kept-none, kept-then}
 use Rattle.checks.specs.Tokens.{Outer, NestedToken}
 use Rattle.checks.specs.Visible.{visible-from, First}
-use Rattle.checks.specs.Walks.{Here, WalkPart, HerePart, WalkOuter, WalkedNested, WalkNested}
+use Rattle.checks.specs.Walks.{HerePart, WalkOuter, WalkNested}
 use Rattle.checks.proofs.Told.{told-then, told-none}
 use Rattle.checks.proofs.Ones.{same-told}
 use Rattle.checks.proofs.Each.{each-snoc, firsts-more, firsts-length, drop-first, nested-token, records-snoc, nested-snoc, records-live}

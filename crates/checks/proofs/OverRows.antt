@@ -2,32 +2,31 @@
 -- Assumes nothing.
 use mathlib.Core.Path.{_≡_, refl, sym, ap, _∙_}
 use mathlib.Core.List.{List, [], _∷_, _++_}
-use mathlib.Core.Option.{some}
-use Prim.Native.Nat.{ℕ, suc, _+_, _*_, _<_, _≤_, _^_}
+use Prim.Native.Nat.{ℕ, _+_, _*_, _<_, _≤_}
 use native.Mathlib.Omega.{arith}
 use lib.Dec.{ltb}
-use lib.ListN.{length, getD, take, drop}
+use lib.ListN.{length, take, drop}
 use lib.Seq.{take-length}
 use Rattle.paper.specs.Base.{gather}
 use Rattle.paper.specs.Tokens.{Token}
 use Rattle.paper.specs.Statements.{Statement}
-use Rattle.paper.specs.Names.{declarations, Declared, global}
+use Rattle.paper.specs.Names.{declarations}
 use Rattle.paper.specs.State.{State, view, sense}
-use Rattle.paper.specs.Checks.{Diag, each, no-token, token, symbol-token, disjoint-token, check-expression, check-disjoint, first-index, disjoint-diags}
+use Rattle.paper.specs.Checks.{each, token, symbol-token, disjoint-token, check-expression, check-disjoint, first-index, disjoint-diags}
 use Rattle.paper.specs.Records.{diag-record}
-use Rattle.area.specs.Cells.{math-cell, symbol-cell, word}
-use Rattle.reader.specs.Rows.{stmt, before}
+use Rattle.area.specs.Cells.{math-cell, word}
+use Rattle.reader.specs.Rows.{stmt}
 use Rattle.facts.proofs.Sense.{before-alike}
 use Rattle.nameck.specs.Atoms.{atoms}
 use Rattle.stream.specs.Wrote.{Wrote}
-use Rattle.slots.specs.Kept.{Room, Kept}
-use Rattle.slots.specs.Slots.{Nests, Floats, Atomic, Apart}
+use Rattle.slots.specs.Kept.{Kept}
+use Rattle.slots.specs.Slots.{Nests, Floats, Apart}
 use Rattle.slots.specs.Marks.{Atoms, Marks, Forgot}
 use Rattle.slots.proofs.Kept.{kept-none, kept-then, room-kept, named-kept}
 use Rattle.slots.proofs.Slots.{nests-kept}
 use Rattle.slots.proofs.Marks.{marks-left, marks-none}
-use Rattle.checks.specs.Tokens.{Can, HasFloat, Sees, EapToken, DvToken}
-use Rattle.checks.specs.Walks.{Walk, HasFloats, Here, WalkEap, WalkedDv, WalkDv, CheckedDv}
+use Rattle.checks.specs.Tokens.{Can, Sees, EapToken, DvToken}
+use Rattle.checks.specs.Walks.{Walk, Here, WalkEap, WalkDv, CheckedDv}
 use Rattle.checks.proofs.Told.{told-then, told-none}
 use Rattle.checks.proofs.Ones.{same-told}
 use Rattle.checks.proofs.Each.{each-snoc, firsts-more, firsts-length, firsts-rest}

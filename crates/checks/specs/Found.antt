@@ -1,8 +1,7 @@
 -- Diagnostics by what the look-ups found: what the code and the definitions have in common.
 -- `s` is the statement's offset, `i` the token's index.
-use mathlib.Core.Bool.{Bool}
 use mathlib.Core.List.{List, []}
-use Prim.Native.Nat.{ℕ, zero, suc}
+use Prim.Native.Nat.{ℕ}
 use lib.Dec.{eqb, ltb}
 use Rattle.paper.specs.Base.{choose}
 use Rattle.paper.specs.State.{Sense, inactive, constant, variable}

@@ -1,9 +1,8 @@
 -- What the check of one token asks of the words, and what it promises for every text and state that they stand for.
 -- `a` is the token's atom, `s` the statement's offset, `i` the token's index, `y` the token.
 use mathlib.Core.Path.{_≡_}
-use mathlib.Core.Bool.{Bool}
 use mathlib.Core.List.{List, [], _∷_, _++_}
-use mathlib.Core.Option.{Option, some}
+use mathlib.Core.Option.{some}
 use Prim.Native.Nat.{ℕ, _+_, _*_, _<_, _≤_, _^_}
 use lib.Dec.{ltb}
 use lib.ListN.{length}

@@ -24,7 +24,7 @@ use slots::look::record_nested;
 use slots::mark::see;
 use stream::record::put_diag;
 ghost use mathlib.Core.Path.{_≡_};
-ghost use Prim.Native.Nat.{_+_, _*_, _<_, _≤_};
+ghost use Prim.Native.Nat.{_<_};
 ghost use Rattle.slots.specs.Kept.{Room};
 ghost use Rattle.slots.specs.Slots.{nested-slot};
 ghost use Rattle.checks.specs.Found.{verdict-known};

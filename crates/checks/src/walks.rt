@@ -12,7 +12,7 @@ use reader::comment::next_visible;
 use slots::cells::of_math;
 use slots::mark::forget_dv;
 use token::class::table;
-ghost use Prim.Native.Nat.{_+_, _*_, _<_, _≤_};
+ghost use Prim.Native.Nat.{_+_, _<_};
 ghost use Rattle.checks.specs.Walks.{Walk, HasFloats, WalkEap, WalkDv, CheckedDv, WalkPart, WalkOuter, WalkNested};
 
 /// The tokens of a `$e`, `$a` or `$p`.

@@ -10,7 +10,8 @@ use lib.Dec.{eqb}
 use lib.ListN.{length, getD}
 use borrow.Author.Tests.{eq-eqb, ne-eqb, eqb-true}
 use Rattle.paper.specs.Base.{and, or, not, sameb, any, gather}
-use Rattle.paper.specs.Frames.{member, index, pair, pairs-in, same-pair, names-both, apart}
+use Rattle.paper.specs.Variables.{member, index}
+use Rattle.paper.specs.Pairs.{pair, pairs-in, same-pair, names-both, apart}
 use Rattle.paper.proofs.Tests.{split, clash, eqb-ne, same-eq, eq-same, ne-same}
 use Rattle.paper.proofs.Names.{any-append, index-at, index-none}
 use Rattle.disjoint.specs.Found.{found-in, found, meets, has}

@@ -10,7 +10,7 @@ use lib.Dec.{eqb, ltb}
 use lib.ListN.{length}
 use borrow.Author.Tests.{eq-eqb, ltb-true, ltb-false, lt-ltb}
 use Rattle.paper.specs.Base.{choose, and, or, not, any, all}
-use Rattle.paper.specs.Frames.{Pair, pair, same-pair, new-pairs}
+use Rattle.paper.specs.Pairs.{Pair, pair, same-pair, new-pairs}
 use Rattle.paper.proofs.Tests.{split, clash}
 use Rattle.paper.proofs.Names.{any-append}
 use Rattle.sight.specs.Sums.{one}

@@ -12,7 +12,7 @@ use lib.Seq.{take-at, drop-at, drop-drop, length-take-le}
 use borrow.Author.Tests.{eq-eqb, ne-eqb, ltb-true}
 use Rattle.paper.specs.Base.{and, not, all, gather}
 use Rattle.paper.specs.Answer.{laid}
-use Rattle.paper.specs.Frames.{Pair, pair}
+use Rattle.paper.specs.Pairs.{Pair, pair}
 use Rattle.paper.specs.Records.{pair-bytes, row-bytes, u16}
 use Rattle.paper.proofs.Tests.{split, clash}
 use Rattle.paper.proofs.Lists.{gather-append}

@@ -12,7 +12,7 @@ use lib.ListN.{length, getD, drop, drop-of-length-le}
 use lib.Seq.{drop-cons}
 use borrow.Author.Tests.{lt-ltb, le-ltb}
 use Rattle.paper.specs.Base.{gather}
-use Rattle.paper.specs.Frames.{Pair, pair, pairs-in}
+use Rattle.paper.specs.Pairs.{Pair, pair, pairs-in}
 use Rattle.paper.specs.Records.{u16}
 use Rattle.area.specs.Cells.{statement-cell, word}
 use Rattle.sight.specs.Static.{stack}

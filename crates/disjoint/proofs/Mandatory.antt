@@ -9,7 +9,8 @@ use lib.Dec.{ltb}
 use lib.ListN.{length}
 use borrow.Author.Tests.{lt-ltb, le-ltb}
 use Rattle.paper.specs.Base.{choose, and, keep, gather}
-use Rattle.paper.specs.Frames.{member, index, pair, pairs-in, new-pairs, pairs-by, pairs}
+use Rattle.paper.specs.Variables.{member, index}
+use Rattle.paper.specs.Pairs.{pair, pairs-in, new-pairs, pairs-by, pairs}
 use Rattle.paper.proofs.Tests.{split}
 use Rattle.paper.proofs.Lists.{keep-append}
 use Rattle.paper.proofs.Names.{index-in, index-past, index-lt}

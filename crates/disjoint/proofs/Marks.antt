@@ -11,7 +11,7 @@ use lib.ListN.{length, getD, set, take, length-set}
 use lib.Seq.{ext-getD}
 use borrow.Author.Tests.{eqb-true, eq-eqb, ne-eqb, ltb-true, lt-ltb, le-leb, leb-true}
 use Rattle.paper.specs.Base.{and, or, not, any}
-use Rattle.paper.specs.Frames.{Pair, pair, pairs-in, same-pair}
+use Rattle.paper.specs.Pairs.{Pair, pair, pairs-in, same-pair}
 use Rattle.paper.proofs.Tests.{split, clash, eqb-ne}
 use Rattle.paper.proofs.Names.{any-append}
 use Rattle.area.specs.Cells.{bucket-cell, symbol-cell, word}

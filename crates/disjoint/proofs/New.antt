@@ -6,7 +6,7 @@ use mathlib.Core.List.{List, [], _∷_, _++_, append-assoc, append-nil}
 use lib.Dec.{eqb}
 use borrow.Author.Tests.{eqb-true, eq-eqb}
 use Rattle.paper.specs.Base.{choose, and, any, keep}
-use Rattle.paper.specs.Frames.{Pair, same-pair, new-pair, new-pairs}
+use Rattle.paper.specs.Pairs.{Pair, same-pair, new-pair, new-pairs}
 use Rattle.paper.proofs.Tests.{split, clash}
 use Rattle.paper.proofs.Lists.{keep-append}
 use Rattle.paper.proofs.Names.{any-append}

@@ -10,7 +10,7 @@ use lib.Dec.{eqb, ltb}
 use lib.ListN.{length, getD}
 use borrow.Author.Tests.{lt-ltb, ne-eqb}
 use Rattle.paper.specs.Base.{and, not, all, any, keep, gather}
-use Rattle.paper.specs.Frames.{Pair, pair, pairs-in, new-pairs}
+use Rattle.paper.specs.Pairs.{Pair, pair, pairs-in, new-pairs}
 use Rattle.paper.proofs.Tests.{split, clash}
 use Rattle.area.specs.Cells.{statement-cell, word}
 use Rattle.sight.specs.Static.{stack}

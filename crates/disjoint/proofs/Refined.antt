@@ -11,7 +11,8 @@ use Rattle.paper.specs.Base.{gather}
 use Rattle.paper.specs.Tokens.{Token}
 use Rattle.paper.specs.Statements.{Statement}
 use Rattle.paper.specs.Checks.{token, no-token}
-use Rattle.paper.specs.Frames.{member, index, pairs-in, pairs, apart, row, rows}
+use Rattle.paper.specs.Variables.{member, index}
+use Rattle.paper.specs.Pairs.{pairs-in, pairs, apart, row, rows}
 use Rattle.paper.proofs.Names.{index-lt, index-at, index-same, member-at}
 use Rattle.paper.proofs.Lists.{gather-append}
 use Rattle.paper.proofs.Gather.{map-append}

@@ -11,7 +11,7 @@ use lib.Dec.{eqb}
 use lib.ListN.{length, getD, set, replicate, length-append, replicate-append-replicate}
 use borrow.Author.Tests.{eqb-true, eq-eqb, ne-eqb}
 use Rattle.paper.specs.Base.{and, or, not, any, keep, gather, table}
-use Rattle.paper.specs.Frames.{Pair, pair, same-pair, new-pair, new-pairs}
+use Rattle.paper.specs.Pairs.{Pair, pair, same-pair, new-pair, new-pairs}
 use Rattle.paper.specs.Records.{pair-bytes, u16}
 use Rattle.paper.proofs.Tests.{split}
 use Rattle.paper.proofs.Lists.{keep-append}

@@ -10,7 +10,7 @@ use lib.ListN.{length, getD, take, drop, set, length-set}
 use lib.Seq.{take-length}
 use borrow.Author.Tests.{lt-ltb, le-ltb, le-leb, lt-leb, eq-eqb, ne-eqb}
 use Rattle.paper.specs.Base.{and, or, any, gather}
-use Rattle.paper.specs.Frames.{pairs-in}
+use Rattle.paper.specs.Pairs.{pairs-in}
 use Rattle.area.specs.Cells.{statement-cell, bucket-cell, symbol-cell, math-cell, word}
 use Rattle.area.proofs.Laws.{word-other}
 use Rattle.sight.specs.Static.{stack}

@@ -11,7 +11,7 @@ use lib.ListN.{length, getD, take, drop, drop-of-length-le}
 use lib.Seq.{drop-cons, take-suc}
 use borrow.Author.Tests.{eq-eqb, ne-eqb}
 use Rattle.paper.specs.Base.{choose, or, any, gather}
-use Rattle.paper.specs.Frames.{pairs-in}
+use Rattle.paper.specs.Pairs.{pairs-in}
 use Rattle.paper.proofs.Lists.{gather-append}
 use Rattle.paper.proofs.Names.{any-append}
 use Rattle.paper.proofs.Tables.{length-table, getD-table}

@@ -7,7 +7,7 @@ use native.Mathlib.Nat.{mul-le-mul-right}
 use native.Mathlib.Omega.{arith}
 use lib.ListN.{length, take, replicate, length-append}
 use Rattle.paper.specs.Base.{keep, gather}
-use Rattle.paper.specs.Frames.{Pair, new-pairs, pairs}
+use Rattle.paper.specs.Pairs.{Pair, new-pairs, pairs}
 use Rattle.paper.specs.Records.{u32, pair-bytes, row-bytes}
 use Rattle.area.specs.Cells.{bucket-cell, word}
 use Rattle.nameck.proofs.Atoms.{atom-below}

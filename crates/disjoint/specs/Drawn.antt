@@ -7,7 +7,7 @@ use Prim.Native.Nat.{ℕ, _+_, _*_, _/_, _<_, _≤_, _^_}
 use lib.Dec.{eqb}
 use lib.ListN.{length, getD, drop}
 use Rattle.paper.specs.Base.{and, not, all, keep, gather, table}
-use Rattle.paper.specs.Frames.{Pair, pair, pairs-in, new-pairs}
+use Rattle.paper.specs.Pairs.{Pair, pair, pairs-in, new-pairs}
 use Rattle.paper.specs.Records.{pair-bytes, row-bytes}
 use Rattle.stream.specs.Wrote.{Wrote}
 use Rattle.disjoint.specs.declared.draw.Grid.{Grid}

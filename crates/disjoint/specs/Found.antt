@@ -6,7 +6,8 @@ use Prim.Native.Nat.{ℕ}
 use lib.Dec.{eqb, ltb}
 use Rattle.paper.specs.Base.{and, not, any, gather}
 use Rattle.sight.specs.Sums.{sum, one}
-use Rattle.paper.specs.Frames.{index, Pair, pair, pairs-in, same-pair}
+use Rattle.paper.specs.Variables.{index}
+use Rattle.paper.specs.Pairs.{Pair, pair, pairs-in, same-pair}
 
 -- the pairs of one `$d`
 abbrev pub found-in : List (List ℕ) → List (List ℕ) → List Pair

@@ -5,7 +5,7 @@ use mathlib.Core.Logic.{_≢_}
 use mathlib.Core.List.{List}
 use Prim.Native.Nat.{ℕ, _+_, _-_, _*_, _<_, _≤_}
 use Rattle.paper.specs.Base.{gather, table}
-use Rattle.paper.specs.Frames.{Pair, pairs-in}
+use Rattle.paper.specs.Pairs.{Pair, pairs-in}
 use Rattle.area.specs.Cells.{statement-cell, bucket-cell, symbol-cell, math-cell, word}
 use Rattle.sight.specs.Static.{stack}
 use Rattle.slots.specs.Kept.{Room}

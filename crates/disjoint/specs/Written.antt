@@ -9,7 +9,8 @@ use lib.ListN.{length, getD, take}
 use Rattle.paper.specs.Base.{gather}
 use Rattle.paper.specs.Statements.{Statement}
 use Rattle.paper.specs.Checks.{token}
-use Rattle.paper.specs.Frames.{member, Pair, pairs, rows}
+use Rattle.paper.specs.Variables.{member}
+use Rattle.paper.specs.Pairs.{Pair, pairs, rows}
 use Rattle.paper.specs.Records.{u32, pair-bytes, row-bytes}
 use Rattle.area.specs.Cells.{symbol-cell, word}
 use Rattle.reader.specs.Rows.{stmt}

@@ -3,7 +3,7 @@
 use crate::tally;
 use slots::cells;
 ghost use mathlib.Core.List.{[], _∷_};
-ghost use Rattle.paper.specs.Frames.{pair, pairs-in};
+ghost use Rattle.paper.specs.Pairs.{pair, pairs-in};
 ghost use Rattle.disjoint.specs.Words.{numbers, listed};
 ghost use Rattle.disjoint.specs.Written.{CanPutDisjoint, PutsDisjoint};
 ghost use Rattle.disjoint.specs.Drawn.{CanDraw, Drew, pairs-at, CanDrawAt, CanDrawRow, CanDrawAll};

@@ -8,7 +8,7 @@ ghost use Rattle.disjoint.specs.Words.{number-at, numbers, TokenNumbered
 ghost use Rattle.disjoint.specs.Marks.{Marks, CanMark, MarksOne, CanMarkRow, above, CanCountOf, CountsOf, CanCountAll, CountsAll, CanClear, ClearsMarks, PairCount};
 ghost use Rattle.area.specs.Cells.{bucket-cell, word};
 ghost use Rattle.slots.specs.Kept.{Room};
-ghost use Rattle.paper.specs.Frames.{pairs-in};
+ghost use Rattle.paper.specs.Pairs.{pairs-in};
 
 /// The number of the variable that is a math token of the text.
 pub fn number(work: &[u32], n: usize, t: usize) -> usize

@@ -7,7 +7,7 @@ use Prim.Native.Nat.{ℕ}
 use Rattle.paper.specs.Statements.{Kind, $c, $v, $d, $f, $e, $a, $p, Statement, outermost}
 use Rattle.paper.specs.State.{float, essential, State, nothing}
 use Rattle.paper.specs.Checks.{Diag, token, check-label, nested-records, check-float, check-expression, check-disjoint}
-use Rattle.paper.specs.Frames.{formula}
+use Rattle.paper.specs.Variables.{formula}
 use Rattle.paper.specs.Give.{with-nested, with-hyp, with-disjoint, give-c, give-v, give-d, give-f, give-e, give-assertion, give-by, give}
 use Rattle.paper.proofs.Tests.{split}
 

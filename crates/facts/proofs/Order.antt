@@ -10,7 +10,7 @@ use borrow.Author.Tests.{eqb-false, ne-eqb, ltb-true}
 use Rattle.paper.specs.Base.{not, keep}
 use Rattle.paper.specs.Statements.{Statement, none-end}
 use Rattle.paper.specs.State.{Disjoint, active-disjoint, view}
-use Rattle.paper.specs.Frames.{outer, inner, in-order}
+use Rattle.paper.specs.Pairs.{outer, inner, in-order}
 use Rattle.paper.proofs.Tests.{split}
 use Rattle.paper.proofs.Alls.{All, all-none, all-more, all-map, all-keep, Two, two-none, two-more, two-map, two-kept, keep-all, keep-none}
 use Rattle.reader.specs.Rows.{stmt}

@@ -11,7 +11,8 @@ use borrow.Author.Tests.{eq-eqb, eqb-true}
 use Rattle.paper.specs.Base.{choose, and, or, sameb, any, keep, gather}
 use Rattle.paper.specs.Statements.{Kind, $c, $v, $d, $f, $e, $a, $p, Statement}
 use Rattle.paper.specs.State.{Hyp, float, essential}
-use Rattle.paper.specs.Frames.{member, index, Hypothesis, hypothesis, hypotheses, pooled}
+use Rattle.paper.specs.Variables.{member, index}
+use Rattle.paper.specs.Expressions.{Hypothesis, hypothesis, hypotheses, pooled}
 use Rattle.paper.specs.Checks.{token}
 use Rattle.paper.proofs.Tests.{split, clash, same-refl, same-eq, eqb-ne}
 use Rattle.paper.proofs.Names.{same-sym, index-at, index-lt, member-at, Grown, grown-length, grown-index, Distinct}

@@ -12,7 +12,8 @@ use lib.Seq.{getD-drop}
 use Rattle.paper.specs.Base.{choose, sameb, any, gather}
 use Rattle.paper.specs.Statements.{Statement, none-end}
 use Rattle.paper.specs.State.{Symbol, con, var}
-use Rattle.paper.specs.Frames.{member, index, variable-in, variables-of, constant-in, Fragment, fragment-at, begun, reached, fragments, rump}
+use Rattle.paper.specs.Variables.{member, index, variable-in, variables-of}
+use Rattle.paper.specs.Expressions.{constant-in, Fragment, fragment-at, begun, reached, fragments, rump}
 use Rattle.paper.specs.Checks.{token, no-token}
 use Rattle.paper.proofs.Tests.{split, same-refl}
 use Rattle.paper.proofs.Names.{Grown, grown-index, member-left, any-append}

@@ -13,7 +13,7 @@ use lib.ListN.{length}
 use borrow.Author.Tests.{eq-eqb, ne-eqb}
 use Rattle.paper.specs.Base.{choose, gather}
 use Rattle.paper.specs.Statements.{none-end}
-use Rattle.paper.specs.Frames.{Fragment}
+use Rattle.paper.specs.Expressions.{Fragment}
 use Rattle.paper.specs.Records.{u16, u32, fragment-bytes}
 use Rattle.paper.proofs.Tests.{split}
 use Rattle.paper.proofs.Lists.{gather-append}

@@ -11,7 +11,7 @@ use borrow.Author.Tests.{eq-eqb, ne-eqb}
 use Rattle.paper.specs.Base.{choose}
 use Rattle.paper.specs.Statements.{none-end}
 use Rattle.paper.specs.State.{Symbol, con, var}
-use Rattle.paper.specs.Frames.{raised, constant-in}
+use Rattle.paper.specs.Expressions.{raised, constant-in}
 use Rattle.paper.specs.Records.{string}
 use Rattle.paper.proofs.Tests.{split}
 use Rattle.area.specs.Cells.{name-cell, symbol-cell, word}

@@ -14,7 +14,8 @@ use Rattle.paper.specs.Base.{choose, gather, table}
 use Rattle.paper.specs.Tokens.{Token}
 use Rattle.paper.specs.Statements.{Statement, none-end}
 use Rattle.paper.specs.State.{Symbol, con, var, Formula}
-use Rattle.paper.specs.Frames.{member, index, constant-in, pool-of}
+use Rattle.paper.specs.Variables.{member, index}
+use Rattle.paper.specs.Expressions.{constant-in, pool-of}
 use Rattle.paper.specs.Checks.{token, no-token}
 use Rattle.paper.proofs.Tests.{split}
 use Rattle.paper.proofs.Names.{index-lt}

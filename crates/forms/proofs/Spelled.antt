@@ -12,7 +12,8 @@ use lib.ListN.{length, getD}
 use Rattle.paper.specs.Base.{choose, gather, table}
 use Rattle.paper.specs.Statements.{Statement, none-end}
 use Rattle.paper.specs.State.{Symbol, con, var, Formula}
-use Rattle.paper.specs.Frames.{member, index, variable-in, variables-of, constant-in, pool-of, Fragment, fragments, rump, expression}
+use Rattle.paper.specs.Variables.{member, index, variable-in, variables-of}
+use Rattle.paper.specs.Expressions.{constant-in, pool-of, Fragment, fragments, rump, expression}
 use Rattle.paper.specs.Records.{u32, string, fragment-bytes, expression-bytes}
 use Rattle.paper.specs.Checks.{token}
 use Rattle.paper.proofs.Tests.{split, clash}

@@ -6,7 +6,7 @@ use Prim.Native.Nat.{ℕ, _+_, _*_, _<_, _≤_}
 use lib.ListN.{length}
 use Rattle.paper.specs.Base.{gather}
 use Rattle.paper.specs.Statements.{Statement}
-use Rattle.paper.specs.Frames.{pool-of}
+use Rattle.paper.specs.Expressions.{pool-of}
 use Rattle.paper.specs.Records.{string}
 use Rattle.stream.specs.Wrote.{Wrote}
 use Rattle.reader.specs.Rows.{stmt}

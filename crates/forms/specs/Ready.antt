@@ -6,7 +6,7 @@ use mathlib.Core.List.{List}
 use Prim.Native.Nat.{ℕ, _<_, _≤_}
 use lib.ListN.{length}
 use Rattle.paper.specs.Statements.{Statement}
-use Rattle.paper.specs.Frames.{member, variables-of}
+use Rattle.paper.specs.Variables.{member, variables-of}
 use Rattle.paper.proofs.Names.{Grown}
 use Rattle.reader.specs.Rows.{stmt}
 use Rattle.facts.specs.Facts.{Facts}

@@ -7,7 +7,7 @@ use Prim.Native.Nat.{ℕ, _+_, _-_, _*_, _<_, _≤_}
 use lib.Dec.{eqb}
 use Rattle.paper.specs.Base.{choose, gather}
 use Rattle.paper.specs.Statements.{Statement, none-end}
-use Rattle.paper.specs.Frames.{Fragment, expression}
+use Rattle.paper.specs.Expressions.{Fragment, expression}
 use Rattle.paper.specs.Records.{u32, fragment-bytes, expression-bytes}
 use Rattle.area.specs.Cells.{symbol-cell, word}
 use Rattle.stream.specs.Wrote.{Wrote}

@@ -10,7 +10,7 @@ use lib.ListN.{length, getD, take, drop}
 use Rattle.paper.specs.Base.{choose, gather, table}
 use Rattle.paper.specs.Statements.{none-end}
 use Rattle.paper.specs.State.{Symbol, con, var}
-use Rattle.paper.specs.Frames.{constant-in, Fragment}
+use Rattle.paper.specs.Expressions.{constant-in, Fragment}
 use Rattle.area.specs.Cells.{statement-cell, name-cell, bucket-cell, symbol-cell, math-cell, word}
 use Rattle.sight.specs.Sums.{sum}
 

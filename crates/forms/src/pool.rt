@@ -3,7 +3,7 @@
 use crate::words;
 ghost use mathlib.Core.Path.{_≡_};
 ghost use Prim.Native.Nat.{_+_, _*_, _<_, _≤_, _^_};
-ghost use Rattle.paper.specs.Frames.{constant-in};
+ghost use Rattle.paper.specs.Expressions.{constant-in};
 ghost use Rattle.stream.specs.Wrote.{Wrote};
 ghost use Rattle.area.specs.Cells.{statement-cell, word};
 ghost use Rattle.forms.specs.Words.{name-bytes, word-symbol, count-of, constants-of, constant-size, sizes-to, NameWords, Low, RowWords, StackWords, Before, SomeName, SomeRow, SomeStack};

@@ -11,7 +11,9 @@ use borrow.Author.Tests.{eqb-true}
 use Rattle.paper.specs.Base.{choose, sameb, any, keep, gather}
 use Rattle.paper.specs.Statements.{Kind, $c, $v, $d, $f, $e, $a, $p, Statement}
 use Rattle.paper.specs.Checks.{token}
-use Rattle.paper.specs.Frames.{member, index, sights, variables-of, in-order, mandatory, frame-of}
+use Rattle.paper.specs.Variables.{member, index, sights, variables-of, mandatory}
+use Rattle.paper.specs.Pairs.{in-order}
+use Rattle.paper.specs.Frames.{frame-of}
 use Rattle.paper.specs.Answer.{crowded}
 use Rattle.paper.proofs.Tests.{split}
 use Rattle.paper.proofs.Names.{grown-member, grown-length}

@@ -7,7 +7,10 @@ use native.Mathlib.Omega.{arith}
 use lib.ListN.{length, length-append}
 use Rattle.paper.specs.Base.{gather}
 use Rattle.paper.specs.Statements.{Statement}
-use Rattle.paper.specs.Frames.{sights, pool-of, expression, hypotheses, pooled, in-order, pairs, rows, mandatory, frame-of}
+use Rattle.paper.specs.Variables.{sights, mandatory}
+use Rattle.paper.specs.Expressions.{pool-of, expression, hypotheses, pooled}
+use Rattle.paper.specs.Pairs.{in-order, pairs, rows}
+use Rattle.paper.specs.Frames.{frame-of}
 use Rattle.paper.specs.Records.{le, u16, u32, string, framed, expression-bytes, hypothesis-bytes, pair-bytes, row-bytes, full-payload, frame-record}
 use Rattle.reader.specs.Rows.{stmt}
 use Rattle.sight.specs.Static.{static, row-hyp, row-disjoint, rows-state}

@@ -8,7 +8,8 @@ use native.Mathlib.Omega.{arith}
 use lib.ListN.{length, getD, take, drop, length-take, length-drop}
 use Rattle.paper.specs.Statements.{$f, labelled, Statement}
 use Rattle.paper.specs.Checks.{token}
-use Rattle.paper.specs.Frames.{member, stub}
+use Rattle.paper.specs.Variables.{member}
+use Rattle.paper.specs.Frames.{stub}
 use Rattle.paper.specs.Records.{frame-record}
 use Rattle.area.specs.Cells.{statement-cell, name-cell, math-cell, word}
 use Rattle.stream.specs.Wrote.{Wrote}

@@ -9,7 +9,8 @@ use lib.ListN.{length, take}
 use lib.Seq.{take-append-seam}
 use Rattle.paper.specs.Base.{gather}
 use Rattle.paper.specs.Statements.{Statement}
-use Rattle.paper.specs.Frames.{member, pooled, pool-of, hypotheses, expression}
+use Rattle.paper.specs.Variables.{member}
+use Rattle.paper.specs.Expressions.{pooled, pool-of, hypotheses, expression}
 use Rattle.paper.specs.Records.{u32, string, hypothesis-bytes, expression-bytes}
 use Rattle.paper.proofs.Names.{Grown}
 use Rattle.area.specs.Cells.{statement-cell, word}

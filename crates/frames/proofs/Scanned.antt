@@ -12,7 +12,7 @@ use Rattle.paper.specs.Base.{choose, sameb, any}
 use Rattle.paper.specs.Tokens.{Token}
 use Rattle.paper.specs.Statements.{Statement}
 use Rattle.paper.specs.Checks.{no-token}
-use Rattle.paper.specs.Frames.{member, see, sights, variables-of}
+use Rattle.paper.specs.Variables.{member, see, sights, variables-of}
 use Rattle.paper.proofs.Tests.{split, clash}
 use Rattle.paper.proofs.Names.{Grown, grown-none, grown-then, grown-member, see-grown, see-self, sights-member}
 use Rattle.paper.proofs.Alls.{All, all-none, all-more}

@@ -9,7 +9,7 @@ use lib.Dec.{ltb}
 use lib.ListN.{length, getD, drop}
 use borrow.Author.Tests.{lt-ltb, le-ltb}
 use Rattle.paper.specs.Statements.{Statement}
-use Rattle.paper.specs.Frames.{mandatory}
+use Rattle.paper.specs.Variables.{mandatory}
 use Rattle.paper.specs.Records.{u32, frame-record}
 use Rattle.paper.specs.Answer.{crowded}
 use Rattle.paper.proofs.Alls.{All, all-none, all-more}

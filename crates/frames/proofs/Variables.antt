@@ -9,7 +9,7 @@ use Rattle.paper.specs.Base.{choose, gather, keep}
 use Rattle.paper.specs.Tokens.{Token}
 use Rattle.paper.specs.Statements.{Statement}
 use Rattle.paper.specs.State.{Formula}
-use Rattle.paper.specs.Frames.{see, sights, variable-in, variables-of, formula-in, mandatory}
+use Rattle.paper.specs.Variables.{see, sights, variable-in, variables-of, formula-in, mandatory}
 use Rattle.paper.proofs.Tests.{split}
 use Rattle.paper.proofs.Lists.{gather-append}
 use Rattle.paper.proofs.Names.{sights-append}

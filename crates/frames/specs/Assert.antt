@@ -9,7 +9,9 @@ use lib.ListN.{length, getD}
 use Rattle.paper.specs.Base.{keep}
 use Rattle.paper.specs.Statements.{Statement}
 use Rattle.paper.specs.Checks.{token}
-use Rattle.paper.specs.Frames.{member, variables-of, in-order, mandatory, Frame, frame-of}
+use Rattle.paper.specs.Variables.{member, variables-of, mandatory}
+use Rattle.paper.specs.Pairs.{in-order}
+use Rattle.paper.specs.Frames.{Frame, frame-of}
 use Rattle.paper.specs.Records.{frame-record}
 use Rattle.paper.specs.Answer.{crowded}
 use Rattle.paper.proofs.Alls.{All}

@@ -7,7 +7,8 @@ use Prim.Native.Nat.{ℕ, _+_, _<_, _≤_}
 use lib.ListN.{length, take}
 use Rattle.paper.specs.Base.{gather}
 use Rattle.paper.specs.Statements.{Statement}
-use Rattle.paper.specs.Frames.{member, variables-of, pool-of, expression, hypotheses, pooled}
+use Rattle.paper.specs.Variables.{member, variables-of}
+use Rattle.paper.specs.Expressions.{pool-of, expression, hypotheses, pooled}
 use Rattle.paper.specs.Records.{u16, u32, string, framed, expression-bytes, hypothesis-bytes}
 use Rattle.area.specs.Cells.{symbol-cell, word}
 use Rattle.stream.specs.Wrote.{Wrote}

@@ -11,7 +11,7 @@ use lib.Dec.{ltb}
 use Rattle.paper.specs.Base.{choose, and, keep, gather}
 use Rattle.paper.specs.Statements.{Kind, $c, $v, $d, $f, $e, $a, $p, Statement}
 use Rattle.paper.specs.State.{hyp-end, view, active-hyp, active-disjoint}
-use Rattle.paper.specs.Frames.{formula-in}
+use Rattle.paper.specs.Variables.{formula-in}
 use Rattle.paper.proofs.Tests.{split, clash}
 use Rattle.paper.proofs.Lists.{keep-append}
 use Rattle.paper.proofs.Alls.{All, all-none, all-more, all-map, all-append, Two, two-none, two-more, two-append}

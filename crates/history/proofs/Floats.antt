@@ -13,7 +13,7 @@ use Rattle.paper.specs.Tokens.{Token}
 use Rattle.paper.specs.Statements.{Statement}
 use Rattle.paper.specs.State.{Formula, Hyp, hyp-end, State, active-hyp, view, float-name, float-of, Sense, inactive, constant, variable, sense}
 use Rattle.paper.specs.Checks.{diag, symbol-diags, symbol-token, check-expression}
-use Rattle.paper.specs.Frames.{symbol-of, symbol, formula, member, see, sights, variable-in, variables-of, formula-in, mandatory}
+use Rattle.paper.specs.Variables.{symbol-of, symbol, formula, member, see, sights, variable-in, variables-of, formula-in, mandatory}
 use Rattle.paper.proofs.Tests.{split, by-option}
 use Rattle.paper.proofs.Alls.{All, all-none, all-more, all-map, all-both, all-append, all-keep, all-kept, Any, any-map, any-left, any-keep, any-unkeep, latest-any, any-latest}
 use Rattle.paper.proofs.Lists.{gather-append}

@@ -12,7 +12,8 @@ use Rattle.paper.specs.Base.{keep, latest}
 use Rattle.paper.specs.Statements.{Kind, $c, $v, $d, $f, $e, $a, $p, Statement}
 use Rattle.paper.specs.State.{Formula, Hyp, State, view, float-name, float-of}
 use Rattle.paper.specs.Checks.{token, check-expression}
-use Rattle.paper.specs.Frames.{formula, frame-of}
+use Rattle.paper.specs.Variables.{formula}
+use Rattle.paper.specs.Frames.{frame-of}
 use Rattle.paper.proofs.Tests.{split, by-option, clash, same-eq}
 use Rattle.paper.proofs.Options.{none-some, some-same}
 use Rattle.paper.proofs.Alls.{Any, any-here, any-later}

@@ -13,7 +13,7 @@ use Rattle.paper.specs.Statements.{Statement}
 use Rattle.paper.specs.Names.{Declared, global}
 use Rattle.paper.specs.State.{Nested, State, view, active-nested, nested-name, nested-of, inactive, constant, variable, by-nested, float-of, sense}
 use Rattle.paper.specs.Checks.{Diag, diag, symbol-diags, Verdict, against, record-it, verdict, recorded-by, records, nested-records, each, symbol-token, check-expression}
-use Rattle.paper.specs.Frames.{symbol-of, symbol, formula}
+use Rattle.paper.specs.Variables.{symbol-of, symbol, formula}
 use Rattle.paper.proofs.Tests.{split, by-option, same-eq}
 use Rattle.paper.proofs.Alls.{All, all-none, all-more, all-append, all-keep, latest-all}
 use Rattle.reader.specs.Rows.{stmt}

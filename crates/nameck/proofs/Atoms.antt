@@ -10,7 +10,7 @@ use lib.Seq.{take-length}
 use Rattle.paper.specs.Base.{sameb, any, gather}
 use Rattle.paper.specs.Statements.{labelled, Statement}
 use Rattle.paper.specs.Names.{bearer, labels}
-use Rattle.paper.specs.Frames.{member}
+use Rattle.paper.specs.Variables.{member}
 use Rattle.paper.specs.Checks.{token, no-token}
 use Rattle.paper.proofs.Tests.{split, same-refl}
 use Rattle.paper.proofs.Names.{any-append, member-at, index-lt, index-at, index-same, sights-length, sights-member, Distinct, distinct-none, distinct-sights}

@@ -14,7 +14,7 @@ use borrow.Author.Tests.{ne-eqb, eqb-true, ltb-true, ltb-false}
 use Rattle.paper.specs.Base.{choose, sameb, find, orElse}
 use Rattle.paper.specs.Tokens.{Token}
 use Rattle.paper.specs.Names.{named, Declared, declares-name}
-use Rattle.paper.specs.Frames.{member, see, index}
+use Rattle.paper.specs.Variables.{member, see, index}
 use Rattle.paper.proofs.Tests.{split, clash, eqb-ne, same-refl, same-eq}
 use Rattle.paper.proofs.Lists.{find-append}
 use Rattle.paper.proofs.Names.{member-none, index-lt, index-at, Distinct}

@@ -13,7 +13,7 @@ use Rattle.paper.specs.Base.{choose, gather}
 use Rattle.paper.specs.Tokens.{Token}
 use Rattle.paper.specs.Statements.{labelled, Statement}
 use Rattle.paper.specs.Names.{Declared}
-use Rattle.paper.specs.Frames.{member, see, sights, index}
+use Rattle.paper.specs.Variables.{member, see, sights, index}
 use Rattle.paper.specs.Checks.{token, no-token}
 use Rattle.paper.proofs.Tests.{split, clash, eqb-ne}
 use Rattle.paper.proofs.Names.{Grown, grown-length, grown-index, see-self, sights-append, sights-one, sights-grown, index-lt, Distinct, distinct-none, distinct-sights}

@@ -12,7 +12,7 @@ use lib.ListN.{length, getD, take, drop, set, length-append, length-set, drop-of
 use lib.Seq.{drop-cons}
 use borrow.Author.Tests.{eq-eqb, ne-eqb}
 use Rattle.paper.specs.Base.{sameb, any}
-use Rattle.paper.specs.Frames.{member, index}
+use Rattle.paper.specs.Variables.{member, index}
 use Rattle.paper.proofs.Tests.{split, same-refl, ne-same}
 use Rattle.paper.proofs.Names.{same-sym, member-left, member-right, member-one, index-in, index-past, index-lt}
 use Rattle.area.specs.Cells.{name-cell, word, Only}

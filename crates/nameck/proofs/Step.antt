@@ -9,7 +9,7 @@ use lib.Dec.{eqb}
 use lib.ListN.{length, getD, take, drop, set}
 use Rattle.paper.specs.Tokens.{Token}
 use Rattle.paper.specs.Statements.{Kind, $c, $v, $d, $f, $e, $a, $p, labelled}
-use Rattle.paper.specs.Frames.{member, sights}
+use Rattle.paper.specs.Variables.{member, sights}
 use Rattle.paper.specs.Checks.{token}
 use Rattle.paper.proofs.Tests.{split}
 use Rattle.paper.proofs.Names.{see-self, sights-one}

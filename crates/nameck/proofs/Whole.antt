@@ -14,7 +14,7 @@ use Rattle.paper.specs.Base.{choose, and, find, gather}
 use Rattle.paper.specs.Tokens.{Token, tokens}
 use Rattle.paper.specs.Statements.{Kind, $c, $v, $d, $f, $e, $a, $p, Statement, none-end, outermost}
 use Rattle.paper.specs.Names.{bearer, labels, owner, declared-by, declarations, declared, global}
-use Rattle.paper.specs.Frames.{sights}
+use Rattle.paper.specs.Variables.{sights}
 use Rattle.paper.proofs.Tests.{split}
 use Rattle.paper.proofs.Gather.{map-append, gather-more, gather-parts, gather-upto}
 use Rattle.area.specs.Cells.{statement-cell, name-cell, symbol-cell, word}

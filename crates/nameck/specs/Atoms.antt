@@ -7,7 +7,7 @@ use Rattle.paper.specs.Base.{gather}
 use Rattle.paper.specs.Tokens.{Token}
 use Rattle.paper.specs.Statements.{Statement}
 use Rattle.paper.specs.Names.{bearer}
-use Rattle.paper.specs.Frames.{sights, index}
+use Rattle.paper.specs.Variables.{sights, index}
 
 abbrev pub bytes-of : Token → List ℕ
 bytes-of t = t .bytes

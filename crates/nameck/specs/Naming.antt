@@ -10,7 +10,7 @@ use Rattle.paper.specs.Base.{choose, and, find, gather}
 use Rattle.paper.specs.Tokens.{Token}
 use Rattle.paper.specs.Statements.{labelled, Statement, none-end}
 use Rattle.paper.specs.Names.{named, bearer, labels, Declared, declares, declared, declares-name}
-use Rattle.paper.specs.Frames.{member, sights}
+use Rattle.paper.specs.Variables.{member, sights}
 use Rattle.paper.specs.Checks.{token}
 use Rattle.area.specs.Cells.{statement-cell, name-cell, symbol-cell, math-cell, word}
 use Rattle.reader.specs.Rows.{stmt, before, label-of, Stands, Shape, Rows}

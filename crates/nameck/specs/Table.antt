@@ -6,7 +6,7 @@ use Prim.Native.Nat.{ℕ, zero, suc, _+_, _-_, _*_, _<_, _≤_}
 use lib.Dec.{eqb}
 use lib.ListN.{length, take, drop, set}
 use Rattle.paper.specs.Base.{choose}
-use Rattle.paper.specs.Frames.{member, see, index}
+use Rattle.paper.specs.Variables.{member, see, index}
 use Rattle.area.specs.Cells.{name-cell, symbol-cell, word, Only}
 
 -- the name in the a-th row, and the first m names

@@ -10,7 +10,7 @@ use lib.ListN.{length, getD, length-append, List·getD-append}
 use lib.Seq.{getD-append-add}
 use borrow.Author.Tests.{ltb-true, ltb-false}
 use Rattle.paper.specs.Base.{or, sameb, any}
-use Rattle.paper.specs.Frames.{member, see, sights, index}
+use Rattle.paper.specs.Variables.{member, see, sights, index}
 use Rattle.paper.proofs.Tests.{split, clash, same-refl, same-eq, eq-same, ne-same}
 
 pub same-sym : (x y : List ℕ) → sameb x y ≡ sameb y x

@@ -10,7 +10,10 @@ use Rattle.paper.specs.Base.{choose, not, codes, sameb, all, any, keep, 
 use Rattle.paper.specs.Bytes.{white, printable, label-byte, math-byte}
 use Rattle.paper.specs.Checks.{each, check-label, check-outer, verdict, records, nested-records, nested-diags, check-float, check-expression, first-index, check-disjoint}
 use Rattle.paper.specs.Comments.{after, visible}
-use Rattle.paper.specs.Frames.{formula, sights, variables-of, index, raised, pool-of, fragments, rump, expression, hypotheses, in-order, pairs-in, new-pairs, pairs, rows, mandatory, frame-of}
+use Rattle.paper.specs.Variables.{formula, sights, variables-of, index, mandatory}
+use Rattle.paper.specs.Expressions.{raised, pool-of, fragments, rump, expression, hypotheses}
+use Rattle.paper.specs.Pairs.{in-order, pairs-in, new-pairs, pairs, rows}
+use Rattle.paper.specs.Frames.{frame-of}
 use Rattle.paper.specs.Give.{give-c, give-v, give-d, give-f, give-e, give-assertion, give, gives, all-given}
 use Rattle.paper.specs.Names.{labels, owner, declared, global}
 use Rattle.paper.specs.Reader.{allow, many, items, words, reading}

@@ -8,7 +8,8 @@ use Rattle.paper.specs.Tokens.{Token}
 use Rattle.paper.specs.Statements.{Kind, $c, $v, $d, $f, $e, $a, $p, Statement, outermost}
 use Rattle.paper.specs.State.{Nested, Hyp, float, essential, Disjoint, State, nothing, plus, view}
 use Rattle.paper.specs.Checks.{Diag, diag, token, check-label, check-outer, nested-records, nested-diags, check-float, check-expression, check-disjoint}
-use Rattle.paper.specs.Frames.{Frame, stub, formula, frame-of}
+use Rattle.paper.specs.Variables.{formula}
+use Rattle.paper.specs.Frames.{Frame, stub, frame-of}
 
 -- the diagnostics, what is recorded, and a frame or none
 pub record Given : Type 0 where

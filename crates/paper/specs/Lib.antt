@@ -7,6 +7,9 @@ pub mod Reader
 pub mod Names
 pub mod State
 pub mod Checks
+pub mod Variables
+pub mod Expressions
+pub mod Pairs
 pub mod Frames
 pub mod Give
 pub mod Records

@@ -6,7 +6,9 @@ use Prim.Native.Nat.{ℕ, zero, suc, _+_, _*_, _/_, _%_}
 use lib.ListN.{length, take, drop}
 use Rattle.paper.specs.Base.{choose, gather, table}
 use Rattle.paper.specs.Checks.{Diag}
-use Rattle.paper.specs.Frames.{raised, Fragment, Expression, Hypothesis, of-float, of-essential, Pair, Full, Frame, stub, full}
+use Rattle.paper.specs.Expressions.{raised, Fragment, Expression, Hypothesis, of-float, of-essential}
+use Rattle.paper.specs.Pairs.{Pair}
+use Rattle.paper.specs.Frames.{Full, Frame, stub, full}
 use Rattle.paper.specs.Give.{Given}
 
 -- the k lowest bytes of n

@@ -5,17 +5,17 @@ use mathlib.Core.Logic.{_≢_}
 use mathlib.Core.Bool.{Bool, true, false}
 use mathlib.Core.List.{List, [], _∷_, _++_, map, append-nil}
 use mathlib.Core.Option.{Option, none, some}
-use Prim.Native.Nat.{ℕ, zero, suc, _+_, _-_, _*_, _<_, _≤_}
+use Prim.Native.Nat.{ℕ, _+_, _*_, _<_, _≤_}
 use native.Mathlib.Omega.{arith}
-use lib.Dec.{eqb}
 use lib.ListN.{length, set}
 use borrow.Author.Tests.{eq-eqb, ne-eqb}
-use Rattle.paper.specs.Base.{choose, and, gather, keep}
+use Rattle.paper.specs.Base.{and, gather, keep}
 use Rattle.paper.specs.Statements.{Kind, $c, $v, $d, $f, $e, $a, $p, labelled, Statement, none-end, outermost}
 use Rattle.paper.specs.Names.{owner, declarations}
-use Rattle.paper.specs.State.{Nested, Hyp, essential, State, nothing, active-nested, active-hyp, view, float-of, sense}
+use Rattle.paper.specs.State.{Hyp, essential, State, nothing, active-nested, active-hyp, view, float-of, sense}
 use Rattle.paper.specs.Checks.{Diag, diag, token, check-label, check-outer, nested-records, nested-diags, typecode-diags, variable-diags, if-none, float-diags, check-float, check-expression, check-disjoint}
-use Rattle.paper.specs.Frames.{Frame, stub, formula, frame-of}
+use Rattle.paper.specs.Variables.{formula}
+use Rattle.paper.specs.Frames.{stub, frame-of}
 use Rattle.paper.specs.Give as give
 use Rattle.paper.specs.Records.{diag-record}
 use Rattle.paper.specs.declared.Atom.{Atom}
@@ -24,13 +24,12 @@ use Rattle.area.specs.Cells.{statement-cell, math-cell, word}
 use Rattle.reader.specs.Rows.{kind-number, stmt}
 use Rattle.facts.specs.States.{state-at, view-at, given-at}
 use Rattle.facts.proofs.Sense.{kind-none}
-use Rattle.history.specs.Accepted.{no-diags, accepted, is-essential, is-disjoint, rows-of}
+use Rattle.history.specs.Accepted.{no-diags, accepted, is-essential, is-disjoint}
 use Rattle.history.proofs.Active.{rows-next}
 use Rattle.stream.specs.Wrote.{Wrote}
 use Rattle.stream.specs.Diagnostic.{diagnostic}
 use Rattle.stream.proofs.Records.{wrote-diag}
-use Rattle.slots.specs.Kept.{Kept}
-use Rattle.slots.specs.Slots.{owner-slot, owner-of, Nests, Floats, Atomic, float-hyp, with-float}
+use Rattle.slots.specs.Slots.{owner-slot, owner-of, Nests, Atomic, float-hyp, with-float}
 use Rattle.slots.specs.Marks.{Marks}
 use Rattle.slots.proofs.Kept.{kept-none, kept-then, kept-wide, kept-statement}
 use Rattle.slots.proofs.Slots.{nests-kept, kept-float, floats-put, floats-essential, floats-kept, floats-later}
@@ -38,14 +37,13 @@ use Rattle.slots.proofs.Marks.{marks-kept}
 use Rattle.slots.proofs.Words.{owner-slot-is}
 use Rattle.slots.proofs.Stacks.{stack-kept, stack-push}
 use Rattle.checks.specs.Tokens.{Label, Float}
-use Rattle.checks.specs.Visible.{visible-from}
 use Rattle.checks.specs.Walks.{WalkOuter, WalkNested, WalkEap, CheckedDv}
 use Rattle.checks.proofs.Ones.{same-told}
 use Rattle.checks.proofs.OverRows.{seen-here}
 use Rattle.scopeck.specs.declared.Scope.{Scope}
 use Rattle.scopeck.specs.declared.Row.{Row}
 use Rattle.scopeck.specs.declared.Owner.the-variants as own
-use Rattle.scopeck.specs.Scope.{row-of, part-of, own-by, moved, with-essential, with-disjoint, Stands, Ready, Given, Gives, GivesPart}
+use Rattle.scopeck.specs.Scope.{row-of, part-of, own-by, moved, with-essential, with-disjoint, Ready, Given, Gives, GivesPart}
 use Rattle.scopeck.proofs.Ready.{apart-of, kind-c, kind-v, kind-d, kind-f, kind-e, kind-large, kind-of, row-room, here-of, walk-of, label-atomic, here-part, walk-part}
 use Rattle.scopeck.proofs.Gives.{given-by, unless-some, accept-some, accept-diags, accept-nothing, told-some, told-nothing, owns-none, owns-some, nested-next, hyps-next, atoms-fit, entry-room, ess-still, dis-still, quiet, rejected}
 

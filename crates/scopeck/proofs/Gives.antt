@@ -1,52 +1,43 @@
 -- From what the code of a statement did to what the definitions say that the statement gives.
 -- Assumes nothing.
-use mathlib.Core.Path.{_≡_, refl, sym, ap, _∙_}
+use mathlib.Core.Path.{_≡_, refl, ap, _∙_}
 use mathlib.Core.Logic.{_≢_}
 use mathlib.Core.Bool.{Bool, true, false}
 use mathlib.Core.List.{List, [], _∷_, _++_, append-nil}
 use mathlib.Core.Option.{Option, none, some}
-use Prim.Native.Nat.{ℕ, zero, suc, _+_, _-_, _*_, _<_, _≤_}
+use Prim.Native.Nat.{ℕ, _+_, _*_, _<_, _≤_}
 use native.Mathlib.Omega.{arith}
 use lib.Dec.{eqb}
-use lib.ListN.{length, set}
-use borrow.Author.Tests.{eq-eqb, ne-eqb, eqb-true}
-use Rattle.paper.specs.Base.{choose, and, gather, keep}
+use lib.ListN.{length}
+use Rattle.paper.specs.Base.{and, gather}
 use Rattle.paper.specs.Tokens.{Token}
-use Rattle.paper.specs.Statements.{Kind, $c, $v, $d, $f, $e, $a, $p, labelled, Statement, none-end, outermost}
-use Rattle.paper.specs.Names.{owner, declarations}
-use Rattle.paper.specs.State.{Nested, Hyp, State, nothing, plus, active-nested, active-hyp, view, float-of}
-use Rattle.paper.specs.Checks.{Diag, diag, token, label-diags, check-label, check-outer, nested-records, nested-diags, check-float, check-expression, check-disjoint}
+use Rattle.paper.specs.Statements.{Kind, Statement}
+use Rattle.paper.specs.State.{State, nothing}
+use Rattle.paper.specs.Checks.{Diag, label-diags}
 use Rattle.paper.specs.Frames.{Frame}
 use Rattle.paper.specs.Give as give
 use Rattle.paper.specs.Records.{diag-record}
-use Rattle.paper.proofs.Tests.{split, eqb-ne}
-use Rattle.area.specs.Cells.{statement-cell, math-cell, word}
-use Rattle.reader.specs.Rows.{kind-number, stmt}
+use Rattle.paper.proofs.Tests.{split}
+use Rattle.reader.specs.Rows.{stmt}
 use Rattle.paper.specs.declared.Atom.{Atom}
 use Rattle.nameck.specs.Atoms.{atoms}
 use Rattle.facts.specs.States.{state-at, view-at, given-at}
 use Rattle.facts.proofs.States.{state-next}
-use Rattle.facts.proofs.Sense.{kind-none, nested-none}
 use Rattle.history.specs.Accepted.{no-diags, accepted, is-essential, is-disjoint, rows-of}
 use Rattle.history.proofs.Active.{rows-next}
 use Rattle.stream.specs.Wrote.{Wrote}
-use Rattle.slots.specs.declared.Slot.{Slot}
 use Rattle.slots.specs.Kept.{Kept}
-use Rattle.slots.specs.Slots.{owner-slot, owner-of, Atomic, with-float}
+use Rattle.slots.specs.Slots.{owner-of}
 use Rattle.slots.specs.Marks.{Marks}
 use Rattle.slots.specs.Stack.{Stack}
-use Rattle.slots.proofs.Kept.{kept-none, kept-then, kept-wide, kept-statement, room-kept, named-kept}
+use Rattle.slots.proofs.Kept.{kept-wide}
 use Rattle.slots.proofs.Slots.{nests-kept, floats-kept, floats-later}
-use Rattle.slots.proofs.Marks.{marks-kept}
-use Rattle.slots.proofs.Words.{owner-slot-is}
-use Rattle.slots.proofs.Stacks.{stack-kept, stack-next, stack-push}
+use Rattle.slots.proofs.Stacks.{stack-kept, stack-next}
 use Rattle.checks.proofs.Found.{told-length, none-told}
 use Rattle.checks.proofs.Ones.{same-told}
 use Rattle.scopeck.specs.declared.Scope.{Scope}
-use Rattle.scopeck.specs.declared.Row.{Row}
-use Rattle.scopeck.specs.declared.Owner.{Owner}
 use Rattle.scopeck.specs.declared.Owner.the-variants as own
-use Rattle.scopeck.specs.Scope.{row-of, own-by, moved, with-essential, with-disjoint, Stands, Ready, Given}
+use Rattle.scopeck.specs.Scope.{own-by, moved, Ready, Given}
 use Rattle.scopeck.proofs.Ready.{row-room}
 
 -- ---- the definitions' shapes

@@ -1,35 +1,27 @@
 -- What the words and the text say of the statement in hand: its row, its tokens, and that it can be walked.
 -- Assumes nothing.
 use mathlib.Core.Path.{_≡_, refl, sym, ap, _∙_}
-use mathlib.Core.Bool.{Bool, true, false}
-use mathlib.Core.List.{List, [], _∷_, _++_, map}
-use Prim.Native.Nat.{ℕ, zero, suc, _+_, _-_, _*_, _<_, _≤_, _^_}
+use mathlib.Core.Bool.{true}
+use mathlib.Core.List.{List, map}
+use Prim.Native.Nat.{ℕ, _+_, _-_, _*_, _<_, _≤_, _^_}
 use native.Mathlib.Omega.{arith}
-use lib.Dec.{eqb}
 use lib.ListN.{length, length-map, length-take, length-drop}
-use Rattle.paper.specs.Base.{choose}
-use Rattle.paper.specs.Tokens.{Token}
-use Rattle.paper.specs.Comments.{outside, visible}
 use Rattle.paper.specs.Statements.{Kind, $c, $v, $d, $f, $e, $a, $p, labelled, Statement}
 use Rattle.paper.specs.Checks.{token}
-use Rattle.area.specs.Cells.{statement-cell, math-cell, symbol-cell, word}
-use Rattle.reader.specs.Rows.{kind-number, stmt, before, Shape}
-use Rattle.facts.specs.Facts.{Facts}
-use Rattle.nameck.specs.Atoms.{atoms, atom-of, name-of}
-use Rattle.nameck.specs.Named.{Named}
+use Rattle.area.specs.Cells.{statement-cell, math-cell, word}
+use Rattle.reader.specs.Rows.{kind-number, stmt}
+use Rattle.nameck.specs.Atoms.{atoms, atom-of}
 use Rattle.nameck.proofs.Atoms.{label-in, token-in, atom-below, name-of-atom, atom-of-name}
 use Rattle.nameck.proofs.Kept.{math-row}
 use Rattle.token.specs.Words.{move}
-use Rattle.slots.specs.Kept.{Room, Kept}
-use Rattle.slots.specs.Slots.{Floats, Atomic, Apart}
-use Rattle.slots.specs.Marks.{Atoms}
+use Rattle.slots.specs.Slots.{Atomic, Apart}
 use Rattle.checks.specs.Tokens.{Can, HasFloat}
 use Rattle.checks.specs.Visible.{visible-from}
 use Rattle.checks.specs.Walks.{Walk, HasFloats, Here, WalkPart, HerePart}
 use Rattle.checks.proofs.Comments.{math-part}
 use Rattle.scopeck.specs.declared.Scope.{Scope}
 use Rattle.scopeck.specs.declared.Row.{Row}
-use Rattle.scopeck.specs.Scope.{row-of, part-of, Stands, Ready}
+use Rattle.scopeck.specs.Scope.{row-of, part-of, Ready}
 
 pub apart-of : (l : List Statement) → Apart l
 apart-of l =

@@ -2,9 +2,8 @@
 -- Assumes nothing.
 use mathlib.Core.Path.{_≡_, refl, sym, ap, _∙_}
 use mathlib.Core.Logic.{_≢_}
-use mathlib.Core.Bool.{Bool, true, false}
 use mathlib.Core.List.{List, [], _∷_, _++_, append-nil}
-use Prim.Native.Nat.{ℕ, zero, suc, _+_, _-_, _*_, _<_, _≤_}
+use Prim.Native.Nat.{ℕ, _+_, _-_, _*_, _<_, _≤_}
 use native.Mathlib.Nat.{not-suc-le-zero}
 use native.Mathlib.Numerals.{add-one}
 use native.Mathlib.Omega.{arith}
@@ -13,25 +12,21 @@ use lib.ListN.{length, take, drop, set}
 use borrow.Author.Tests.{eq-eqb, ne-eqb, eqb-true}
 use Rattle.paper.specs.Base.{choose, gather, table}
 use Rattle.paper.specs.Statements.{Kind, $c, $v, $d, $f, $e, $a, $p, Statement}
-use Rattle.paper.specs.State.{nothing}
 use Rattle.paper.specs.Checks.{Diag}
-use Rattle.paper.specs.Give.{Given as Gave, all-given}
 use Rattle.paper.specs.Records.{diag-record, diag-records, diag-stream}
 use Rattle.paper.proofs.Tests.{split, eqb-ne}
 use Rattle.paper.proofs.Lists.{gather-append}
 use Rattle.area.specs.Cells.{statement-cell, symbol-cell, word}
 use Rattle.area.proofs.Laws.{word-same, word-other}
 use Rattle.reader.specs.Rows.{kind-number, stmt}
-use Rattle.facts.specs.States.{state-at, given-at}
+use Rattle.facts.specs.States.{given-at}
 use Rattle.facts.proofs.States.{state-start, all-given-table}
-use Rattle.history.specs.Accepted.{no-diags, accepted, is-essential, is-disjoint, rows-of}
+use Rattle.history.specs.Accepted.{no-diags, accepted, rows-of}
 use Rattle.nameck.specs.Atoms.{atoms}
 use Rattle.stream.specs.Wrote.{Wrote}
 use Rattle.stream.proofs.Wrote.{wrote-none, wrote-then, wrote-as}
 use Rattle.slots.specs.Kept.{Room, Kept}
-use Rattle.slots.specs.Slots.{Nests, Floats}
-use Rattle.slots.specs.Marks.{Marks}
-use Rattle.slots.specs.Stack.{pop-of, Deep, Stack}
+use Rattle.slots.specs.Stack.{pop-of, Deep}
 use Rattle.slots.proofs.Kept.{kept-none, kept-then, kept-wide, kept-symbol, kept-statement, room-kept, named-kept}
 use Rattle.slots.proofs.Slots.{nests-kept, nests-later, nests-none, floats-kept, floats-later, floats-none}
 use Rattle.slots.proofs.Marks.{marks-kept}
@@ -39,7 +34,7 @@ use Rattle.slots.proofs.Stacks.{pop-le, stack-pop, stack-kept, stack-none}
 use Rattle.checks.proofs.Found.{told-length}
 use Rattle.scopeck.specs.declared.Scope.{Scope}
 use Rattle.scopeck.specs.Scope.{part-of, Stands, Ready, Given, Gives, SomeReady, SomePart, GivesPart}
-use Rattle.scopeck.specs.Fold.{SomeText, GivesText, accept-word, Marked, Before, SomeBefore, After, Steps, Forgotten, Blank, SomeBlank, Whole, SomeWhole, Checked, ChecksBlank, ChecksAll}
+use Rattle.scopeck.specs.Fold.{SomeText, GivesText, accept-word, Marked, Before, SomeBefore, After, Steps, Forgotten, Blank, SomeBlank, Whole, SomeWhole, ChecksBlank, ChecksAll}
 
 -- ---- a statement of any kind
 pub part-is : (t w : List ℕ) (k : ℕ) {f e : ℕ} → f ≡ word w (statement-cell k 3) → e ≡ word w (statement-cell k 4) → take (e - f) (drop f t) ≡ part-of t w k

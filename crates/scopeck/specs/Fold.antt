@@ -2,7 +2,7 @@
 -- `l` is the statements of the text t; a promise is for every l that the words stand for.
 use mathlib.Core.Path.{_≡_}
 use mathlib.Core.List.{List, []}
-use Prim.Native.Nat.{ℕ, _+_, _*_, _<_, _≤_}
+use Prim.Native.Nat.{ℕ, _+_, _<_, _≤_}
 use lib.Dec.{eqb}
 use lib.ListN.{length}
 use Rattle.paper.specs.Base.{choose, gather}

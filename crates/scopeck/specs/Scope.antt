@@ -1,8 +1,7 @@
 -- What the words stand for before and after a statement, and what the check of a statement promises.
 -- `l` is the statements of the text t, `k` the row of the statement in hand, `st` the state of the fold.
 use mathlib.Core.Path.{_≡_}
-use mathlib.Core.Bool.{Bool}
-use mathlib.Core.List.{List, [], _∷_}
+use mathlib.Core.List.{List, []}
 use Prim.Native.Nat.{ℕ, _+_, _-_, _*_, _<_, _≤_}
 use lib.Dec.{eqb}
 use lib.ListN.{length, take, drop}

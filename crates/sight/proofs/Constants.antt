@@ -13,7 +13,7 @@ use borrow.Author.Tests.{eqb-true, eq-eqb, ne-eqb, ltb-true, ltb-false}
 use Rattle.paper.specs.Base.{choose, any}
 use Rattle.paper.specs.Statements.{Statement, none-end}
 use Rattle.paper.specs.Names.{Declared, global}
-use Rattle.paper.specs.Frames.{member}
+use Rattle.paper.specs.Variables.{member}
 use Rattle.paper.proofs.Tests.{split, eqb-ne}
 use Rattle.area.specs.Cells.{symbol-cell, word}
 use Rattle.area.proofs.Laws.{word-same, word-other, word-at}

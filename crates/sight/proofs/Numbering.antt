@@ -12,7 +12,7 @@ use lib.Seq.{getD-append-add}
 use borrow.Author.Tests.{eqb-true, eq-eqb, ne-eqb, ltb-true, ltb-false}
 use Rattle.paper.specs.Base.{choose, sameb}
 use Rattle.paper.specs.Statements.{Statement, none-end}
-use Rattle.paper.specs.Frames.{member, see, index}
+use Rattle.paper.specs.Variables.{member, see, index}
 use Rattle.paper.proofs.Tests.{split, clash, eqb-ne, same-refl, ne-same}
 use Rattle.paper.proofs.Names.{member-left, member-right, member-one, index-in, index-past, Distinct, distinct-see}
 use Rattle.area.specs.Cells.{bucket-cell, symbol-cell, word}

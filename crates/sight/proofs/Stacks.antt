@@ -13,7 +13,7 @@ use lib.Seq.{getD-append-add}
 use borrow.Author.Tests.{eqb-true, eq-eqb, ne-eqb, ltb-true, ltb-false, le-leb, lt-leb, leb-true, leb-false}
 use Rattle.paper.specs.Base.{choose, and, any}
 use Rattle.paper.specs.Statements.{Statement, none-end}
-use Rattle.paper.specs.Frames.{member, index}
+use Rattle.paper.specs.Variables.{member, index}
 use Rattle.paper.proofs.Tests.{split, eqb-ne, clash}
 use Rattle.paper.proofs.Names.{index-lt, index-at}
 use Rattle.area.specs.Cells.{statement-cell, bucket-cell, symbol-cell, word}

@@ -14,7 +14,7 @@ use borrow.Author.Tests.{eqb-true, eq-eqb, ne-eqb}
 use Rattle.paper.specs.Base.{choose}
 use Rattle.paper.specs.Tokens.{Token}
 use Rattle.paper.specs.Statements.{Statement}
-use Rattle.paper.specs.Frames.{member}
+use Rattle.paper.specs.Variables.{member}
 use Rattle.paper.specs.Checks.{token, no-token}
 use Rattle.paper.proofs.Tests.{split, eqb-ne}
 use Rattle.area.specs.Cells.{statement-cell, bucket-cell, symbol-cell, math-cell, word}

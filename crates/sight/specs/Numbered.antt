@@ -9,7 +9,7 @@ use lib.ListN.{length, getD, drop, set}
 use Rattle.paper.specs.Base.{choose}
 use Rattle.paper.specs.Tokens.{Token}
 use Rattle.paper.specs.Statements.{Statement, none-end}
-use Rattle.paper.specs.Frames.{member, see, index}
+use Rattle.paper.specs.Variables.{member, see, index}
 use Rattle.area.specs.Cells.{bucket-cell, symbol-cell, word}
 use Rattle.reader.specs.Rows.{stmt}
 use Rattle.nameck.specs.Atoms.{atoms, atom-of, name-of}

@@ -1,16 +1,16 @@
 -- What one stored word keeps, and what two changes one after the other keep; what is named stays named.
 -- Assumes nothing.
-use mathlib.Core.Path.{_≡_, refl, sym, ap, _∙_}
+use mathlib.Core.Path.{refl, _∙_}
 use mathlib.Core.List.{List}
 use Prim.Native.Nat.{ℕ, _+_, _*_, _<_, _≤_}
 use native.Mathlib.Omega.{arith}
-use lib.ListN.{length, set, length-set}
+use lib.ListN.{set, length-set}
 use Rattle.paper.specs.Statements.{Statement}
-use Rattle.area.specs.Cells.{statement-cell, name-cell, symbol-cell, math-cell, word}
+use Rattle.area.specs.Cells.{statement-cell, name-cell, symbol-cell, math-cell}
 use Rattle.area.proofs.Laws.{word-other}
-use Rattle.reader.specs.Rows.{Shape}
-use Rattle.nameck.specs.Atoms.{atoms}
 use Rattle.nameck.specs.Named.{Named}
+use Rattle.nameck.specs.Kept as Names
+use Rattle.nameck.proofs.Kept as NamesLaws
 use Rattle.slots.specs.Kept.{Room, Kept}
 
 pub kept-none : (n a b c d : ℕ) (w : List ℕ) → Kept n a b c d w w
@@ -78,41 +78,16 @@ kept-statement n a b w s j v h p q r =
 pub room-kept : {n a b c d : ℕ} {w v : List ℕ} → Kept n a b c d w v → Room w n → Room v n
 room-kept x r = record { room = omega (arith, x .len, r .room); small = r .small }
 
--- what reading and naming left
-shape-kept : {t w v : List ℕ} {n a b c d : ℕ} {l : List Statement} → 8 ≤ a → Kept n a b c d w v → Shape t w n l → Shape t v n l
-shape-kept {t} {w} {v} {n} {l = l} g x h =
-    let k : (s j : ℕ) → s < length l → j < 8 → word v (statement-cell s j) ≡ word w (statement-cell s j) =
-    λ s j m i. x .low s j (omega (arith, h .few)) (omega arith) (omega arith) in
+-- what is named stays named
+frozen : {n a b c d : ℕ} {w v : List ℕ} → 8 ≤ a → 2 ≤ c → Kept n a b c d w v → Names.Kept n w v
+frozen g h x =
     record {
-      rows = h .rows;
-      room = omega (arith, x .len, h .room);
-      short = h .short;
-      few = h .few;
-      maths = h .maths;
-      kind = λ s m. k s 0 m (omega arith) ∙ h .kind s m;
-      at = λ s m. k s 1 m (omega arith) ∙ h .at s m;
-      from-to = λ s m. rw (k s 3 m (omega arith), k s 4 m (omega arith)) (h .from-to s m);
-      within = λ s m. rw (k s 4 m (omega arith)) (h .within s m);
-      first = λ s m. k s 5 m (omega arith) ∙ h .first s m;
-      count = λ s m. k s 6 m (omega arith) ∙ h .count s m;
-      end = λ s m. k s 7 m (omega arith) ∙ h .end s m;
-      part = λ s m. rw (k s 3 m (omega arith), k s 4 m (omega arith)) (h .part s m);
+      len = x .len;
+      statements = λ s j m k. x .low s j m (omega arith) (omega arith);
+      names = λ r j m k. x .names r j m (omega arith);
+      symbols = λ r j m k. x .left r j m (omega arith) (omega arith);
+      maths = λ r m. x .maths r;
     }
 
 pub named-kept : {t w v : List ℕ} {n a b c d : ℕ} {l : List Statement} → 8 ≤ a → 2 ≤ c → Kept n a b c d w v → Named t w n l → Named t v n l
-named-kept {t} {w} {v} {n} {l = l} g g′ x h =
-    let names : (a j : ℕ) → a < length (atoms l) → j < 3 → word v (name-cell n a j) ≡ word w (name-cell n a j) =
-    λ a j m i. x .names a j (omega (arith, h .few)) i in
-    let symbols : (a j : ℕ) → a < length (atoms l) → j < 2 → word v (symbol-cell n a j) ≡ word w (symbol-cell n a j) =
-    λ a j m i. x .left a j (omega (arith, h .few)) (omega arith) (omega arith) in
-    record {
-      shape = shape-kept g x (h .shape);
-      few = h .few;
-      label = λ s m e. x .low s 2 (omega (arith, h .shape .few)) (omega arith) (omega arith) ∙ h .label s m e;
-      math = λ s i m k. x .maths _ ∙ h .math s i m k;
-      start-stop = λ a m. rw (names a 0 m (omega arith), names a 1 m (omega arith)) (h .start-stop a m);
-      within = λ a m. rw (names a 1 m (omega arith)) (h .within a m);
-      name = λ a m. rw (names a 0 m (omega arith), names a 1 m (omega arith)) (h .name a m);
-      owns = λ a m. symbols a 0 m (omega arith) ∙ h .owns a m;
-      declares = λ a m. symbols a 1 m (omega arith) ∙ h .declares a m;
-    }
+named-kept g h x y = NamesLaws.named-kept (frozen g h x) y

@@ -2,20 +2,20 @@
 -- Assumes nothing.
 use mathlib.Core.Path.{_≡_, refl, sym, ap, _∙_}
 use mathlib.Core.Logic.{_≢_}
-use mathlib.Core.Bool.{Bool, true, false}
+use mathlib.Core.Bool.{false}
 use mathlib.Core.List.{List, [], _∷_, _++_}
-use Prim.Native.Nat.{ℕ, zero, suc, _+_, _-_, _*_, _<_, _≤_}
+use Prim.Native.Nat.{ℕ, suc, _+_, _-_, _<_, _≤_}
 use native.Mathlib.Nat.{add-zero, add-suc, suc-add}
 use native.Mathlib.Omega.{arith}
-use lib.Dec.{eqb, ltb}
+use lib.Dec.{eqb}
 use lib.ListN.{length, set, getD}
-use borrow.Author.Tests.{eq-eqb, ne-eqb, eqb-true, lt-ltb, le-ltb}
+use borrow.Author.Tests.{ne-eqb, eqb-true, lt-ltb, le-ltb}
 use Rattle.paper.specs.Base.{choose, sameb}
 use Rattle.paper.specs.Tokens.{Token}
 use Rattle.paper.specs.Statements.{Statement}
 use Rattle.paper.specs.State.{variable}
 use Rattle.paper.specs.Checks.{first-index, disjoint-diags, no-token}
-use Rattle.paper.proofs.Tests.{split, eqb-ne, same-refl, same-eq, eq-same, ne-same, clash}
+use Rattle.paper.proofs.Tests.{split, eqb-ne, same-refl, eq-same, ne-same}
 use Rattle.area.specs.Cells.{symbol-cell, math-cell, word}
 use Rattle.area.proofs.Laws.{word-same, word-other}
 use Rattle.nameck.specs.Atoms.{atoms, name-of}
@@ -23,7 +23,7 @@ use Rattle.slots.specs.declared.Slot.{Slot}
 use Rattle.slots.specs.declared.Slot.the-variants.{At, Nothing}
 use Rattle.slots.specs.Kept.{Room, Kept}
 use Rattle.slots.specs.Slots.{Atomic, Apart}
-use Rattle.slots.specs.Marks.{first-in, mark-slot, marked-by, repeat-diags, Marks, Atoms, Left, Forgot}
+use Rattle.slots.specs.Marks.{first-in, mark-slot, marked-by, repeat-diags, Marks, Left, Forgot}
 use Rattle.slots.proofs.Kept.{kept-none, kept-then, kept-symbol}
 
 -- by cases on a slot, with what it says

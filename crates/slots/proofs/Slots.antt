@@ -9,19 +9,17 @@ use Prim.Native.Nat.{ℕ, _+_, _-_, _*_, _<_, _≤_}
 use native.Mathlib.Omega.{arith}
 use lib.Dec.{eqb, ltb}
 use lib.ListN.{length, set, length-set}
-use borrow.Author.Tests.{eq-eqb, ne-eqb, eqb-true, lt-ltb, le-ltb, ltb-true, ltb-false}
-use Rattle.paper.specs.Base.{choose, keep, orElse, latest, sameb}
+use borrow.Author.Tests.{ne-eqb, eqb-true, le-ltb, ltb-false}
+use Rattle.paper.specs.Base.{choose, keep, orElse, latest}
 use Rattle.paper.specs.Statements.{Statement}
-use Rattle.paper.specs.State.{Nested, Formula, Hyp, float, essential, hyp-end, active-nested, active-hyp, nested-name, nested-of, float-name, float-of}
+use Rattle.paper.specs.State.{Nested, Formula, Hyp, essential, hyp-end, active-nested, active-hyp, nested-name, nested-of, float-name, float-of}
 use Rattle.paper.specs.Checks.{token}
-use Rattle.paper.proofs.Tests.{split, clash, eqb-ne, eq-same, ne-same}
+use Rattle.paper.proofs.Tests.{split, eqb-ne, eq-same, ne-same}
 use Rattle.paper.proofs.Lists.{keep-append, latest-append}
 use Rattle.area.specs.Cells.{statement-cell, symbol-cell, word}
 use Rattle.area.proofs.Laws.{word-same, word-other}
 use Rattle.reader.specs.Rows.{stmt}
 use Rattle.nameck.specs.Atoms.{atoms, name-of}
-use Rattle.nameck.specs.Named.{Named}
-use Rattle.slots.specs.declared.Slot.{Slot}
 use Rattle.slots.specs.declared.Slot.the-variants.{At, Nothing}
 use Rattle.slots.specs.Kept.{Room, Kept}
 use Rattle.slots.specs.Slots.{nested-slot, nested-at, float-slot, float-hyp, float-at, with-nested, with-float, Nests, Floats, Atomic, Apart}

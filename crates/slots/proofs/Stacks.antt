@@ -1,10 +1,9 @@
 -- Dropping what is closed is the filter, and putting one on top is recording.
 -- Assumes nothing.
 use mathlib.Core.Path.{_≡_, refl, sym, ap, _∙_}
-use mathlib.Core.Logic.{_≢_, ⊎-elim}
-use mathlib.Core.Bool.{Bool, true, false}
+use mathlib.Core.Logic.{⊎-elim}
 use mathlib.Core.List.{List, [], _∷_, _++_, append-nil}
-use Prim.Native.Nat.{ℕ, zero, suc, _+_, _-_, _*_, _<_, _≤_}
+use Prim.Native.Nat.{ℕ, zero, suc, _+_, _-_, _<_, _≤_}
 use native.Mathlib.Nat.{le-refl, eq-or-lt-of-le, le-of-suc-le-suc, not-suc-le-zero}
 use native.Mathlib.Omega.{arith}
 use lib.Dec.{ltb}
@@ -16,11 +15,10 @@ use Rattle.paper.proofs.Tests.{split}
 use Rattle.paper.proofs.Lists.{keep-append}
 use Rattle.area.specs.Cells.{statement-cell, word}
 use Rattle.area.proofs.Laws.{word-same, word-other}
-use Rattle.reader.specs.Rows.{stmt, Shape}
+use Rattle.reader.specs.Rows.{stmt}
 use Rattle.facts.specs.Facts.{Facts}
 use Rattle.sight.specs.Static.{stack}
-use Rattle.slots.specs.Kept.{Room, Kept}
-use Rattle.slots.specs.Stack.{end-at, pop-of, Deep, row-active, Stack}
+use Rattle.slots.specs.Stack.{end-at, pop-of, row-active, Stack}
 
 -- ---- one entry less, for the loop
 pub pop-stop : (w : List ℕ) (c d o : ℕ) → 0 < d → o < end-at w c (d - 1) → pop-of w c d o ≡ d

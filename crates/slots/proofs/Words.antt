@@ -1,28 +1,23 @@
 -- What the words of a named text say of an atom: its owner, its global declaration, and what it is at a statement.
 -- Assumes nothing.
-use mathlib.Core.Path.{_≡_, refl, sym, ap, _∙_}
+use mathlib.Core.Path.{_≡_, refl}
 use mathlib.Core.Bool.{Bool, true, false}
 use mathlib.Core.List.{List}
 use mathlib.Core.Option.{Option, none, some}
-use Prim.Native.Nat.{ℕ, _+_, _-_, _*_, _/_, _%_, _<_, _≤_}
+use Prim.Native.Nat.{ℕ, _+_, _-_, _*_, _/_, _%_}
 use native.Mathlib.Nat.{le-refl}
 use native.Mathlib.Omega.{arith}
 use lib.Dec.{eqb, ltb}
-use lib.ListN.{length}
 use borrow.Author.Tests.{eq-eqb, ne-eqb}
 use Rattle.paper.specs.Base.{choose, keep}
 use Rattle.paper.specs.Tokens.{Token}
 use Rattle.paper.specs.Statements.{Statement}
 use Rattle.paper.specs.Names.{Declared, owner, global}
-use Rattle.paper.specs.State.{Nested, State, view, active-nested, nested-of, by-nested, by-global, Sense, inactive, constant, variable, sense}
-use Rattle.area.specs.Cells.{symbol-cell, word}
-use Rattle.nameck.specs.Atoms.{atoms, name-of}
+use Rattle.paper.specs.State.{Nested, State, view, active-nested, nested-of, by-nested, by-global, constant, variable, sense}
 use Rattle.nameck.specs.Named.{owner-word, global-word, Named}
-use Rattle.slots.specs.declared.Slot.{Slot}
 use Rattle.slots.specs.declared.Slot.the-variants.{At, Nothing}
-use Rattle.slots.specs.declared.Global.{Global}
 use Rattle.slots.specs.declared.Global.the-variants as g
-use Rattle.slots.specs.Slots.{owner-slot, owner-of, global-by, global-slot, global-of, nested-slot, nested-at, sense-nested, sense-global, sense-word, Nests, Atomic}
+use Rattle.slots.specs.Slots.{owner-slot, owner-of, global-by, global-slot, global-of, nested-at, sense-global, sense-word, Nests, Atomic}
 
 owner-word-is : (x : Option Token) → choose (eqb (owner-word x) 0) Nothing (At (owner-word x - 1)) ≡ owner-of x
 owner-word-is none = refl

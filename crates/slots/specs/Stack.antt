@@ -5,7 +5,6 @@ use mathlib.Core.Bool.{Bool}
 use mathlib.Core.List.{List}
 use Prim.Native.Nat.{ℕ, zero, suc, _+_, _*_, _<_, _≤_}
 use lib.Dec.{ltb}
-use lib.ListN.{length}
 use Rattle.paper.specs.Base.{choose, keep}
 use Rattle.paper.specs.Statements.{Statement}
 use Rattle.area.specs.Cells.{statement-cell, word}

@@ -9,7 +9,7 @@ use crate::cells::put_symbol;
 use paper::Atom;
 ghost use mathlib.Core.Path.{_≡_};
 ghost use Prim.Native.Nat.{_+_, _*_, _<_, _≤_};
-ghost use Rattle.area.specs.Cells.{statement-cell, symbol-cell, word};
+ghost use Rattle.area.specs.Cells.{symbol-cell, word};
 ghost use Rattle.slots.specs.Kept.{Room};
 ghost use Rattle.slots.specs.Slots.{owner-slot, global-slot, nested-slot, float-slot, sense-nested, sense-word, checked-of, with-nested, with-float};
 

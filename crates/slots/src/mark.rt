@@ -7,7 +7,7 @@ use crate::cells::put_symbol;
 use paper::Atom;
 use paper::TokenIndex;
 ghost use mathlib.Core.Path.{_≡_};
-ghost use Prim.Native.Nat.{_+_, _<_, _≤_};
+ghost use Prim.Native.Nat.{_+_, _<_};
 ghost use Rattle.slots.specs.Kept.{Room};
 ghost use Rattle.slots.specs.Marks.{mark-slot, marked-by, Atoms, Forgot};
 

@@ -5,7 +5,8 @@ use mathlib.Core.Bool.{true, false}
 use mathlib.Core.List.{List, [], _∷_, _++_}
 use Prim.Native.Nat.{ℕ}
 use Rattle.paper.specs.Base.{codes, sameb, gather, table}
-use Rattle.paper.specs.Frames.{raised, Full, stub, full, of-float}
+use Rattle.paper.specs.Expressions.{raised, of-float}
+use Rattle.paper.specs.Frames.{Full, stub, full}
 use Rattle.paper.specs.Records.{le, u16, u32, string, framed, fragment-bytes, expression-bytes, hypothesis-bytes, pair-bytes, octet, row-bytes, full-payload, frame-record}
 use Rattle.paper.specs.Lookup.{u16-at, u32-at, label-of, search-from, look-up}
 use Rattle.paper.specs.declared.Found.the-variants.{At, Malformed, Missing}

@@ -10,7 +10,7 @@ use lib.ListN.{length, getD, take}
 use borrow.Author.Tests.{leb-true}
 use Rattle.paper.specs.Base.{all, and}
 use Rattle.paper.specs.Bytes.{printable, math-byte}
-use Rattle.paper.specs.Frames.{raised}
+use Rattle.paper.specs.Expressions.{raised}
 use Rattle.paper.proofs.Tests.{split, clash}
 
 pub raised-none : (l : List ℕ) → length l ≡ 0 → raised l ≡ []

@@ -7,7 +7,8 @@ use native.Mathlib.Omega.{arith}
 use lib.ListN.{length, length-append}
 use Rattle.paper.specs.Base.{gather}
 use Rattle.paper.specs.Checks.{diag}
-use Rattle.paper.specs.Frames.{raised, stub}
+use Rattle.paper.specs.Expressions.{raised}
+use Rattle.paper.specs.Frames.{stub}
 use Rattle.paper.specs.Records.{le, u16, u32, string, diag-record, frame-record}
 use Rattle.stream.specs.Wrote.{Wrote}
 use Rattle.stream.specs.Diagnostic.{diagnostic}

@@ -4,7 +4,7 @@ ghost use mathlib.Core.Path.{_≡_};
 ghost use mathlib.Core.List.{[], _∷_};
 ghost use Prim.Native.Nat.{_+_, _-_, _<_, _^_};
 ghost use lib.ListN.{length, getD, replicate};
-ghost use Rattle.paper.specs.Frames.{raised};
+ghost use Rattle.paper.specs.Expressions.{raised};
 ghost use Rattle.paper.specs.Records.{u16, u32, string};
 ghost use Rattle.stream.specs.Wrote.{Wrote};
 

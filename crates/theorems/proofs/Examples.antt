@@ -14,7 +14,10 @@ use Rattle.paper.specs.Reader.{Outcome, refused, given, allow, many, items, wor
 use Rattle.paper.specs.Names.{labels, owner, declared, global}
 use Rattle.paper.specs.State.{view, nested-of, float-of, sense}
 use Rattle.paper.specs.Checks.{each, check-label, check-outer, verdict, records, nested-records, nested-diags, check-float, check-expression, first-index, check-disjoint}
-use Rattle.paper.specs.Frames.{formula, sights, variables-of, index, raised, pool-of, fragments, rump, expression, hypotheses, in-order, pairs-in, new-pairs, pairs, rows, mandatory, frame-of}
+use Rattle.paper.specs.Variables.{formula, sights, variables-of, index, mandatory}
+use Rattle.paper.specs.Expressions.{raised, pool-of, fragments, rump, expression, hypotheses}
+use Rattle.paper.specs.Pairs.{in-order, pairs-in, new-pairs, pairs, rows}
+use Rattle.paper.specs.Frames.{frame-of}
 use Rattle.paper.specs.Give.{give-c, give-v, give-d, give-f, give-e, give-assertion, give, gives, all-given}
 use Rattle.paper.specs.Records.{le, u16, u32, string, framed, diag-record, fragment-bytes, expression-bytes, hypothesis-bytes, pair-bytes, octet, row-bytes, full-payload, frame-record, frame-records, diag-records, frame-stream, diag-stream}
 use Rattle.paper.specs.Answer.{Streams, written, outcome, answer, laid}

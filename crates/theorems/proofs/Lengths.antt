@@ -10,7 +10,10 @@ use borrow.Author.Tests.{ltb-false}
 use Rattle.paper.specs.Base.{keep, gather, table}
 use Rattle.paper.specs.Statements.{Statement}
 use Rattle.paper.specs.State.{Symbol, con, var, Formula, Hyp, float, essential, Disjoint, State}
-use Rattle.paper.specs.Frames.{member, see, sights, variable-in, variables-of, formula-in, raised, constant-in, pool-of, fragment-at, begun, reached, fragments, expression, hypothesis, pooled, hypotheses, outer, inner, in-order, Pair, pairs, apart, row, rows, Frame, stub, full, mandatory, frame-of}
+use Rattle.paper.specs.Variables.{member, see, sights, variable-in, variables-of, formula-in, mandatory}
+use Rattle.paper.specs.Expressions.{raised, constant-in, pool-of, fragment-at, begun, reached, fragments, expression, hypothesis, pooled, hypotheses}
+use Rattle.paper.specs.Pairs.{outer, inner, in-order, Pair, pairs, apart, row, rows}
+use Rattle.paper.specs.Frames.{Frame, stub, full, frame-of}
 use Rattle.paper.specs.Records.{le, u16, u32, string, framed, fragment-bytes, expression-bytes, hypothesis-bytes, pair-bytes, row-bytes, full-payload, frame-record}
 use Rattle.paper.specs.Answer.{crowded, frame-at}
 use Rattle.paper.proofs.Tests.{split}

@@ -9,7 +9,8 @@ use lib.Dec.{eqb}
 use lib.ListN.{length}
 use borrow.Author.Tests.{eq-eqb, eqb-true}
 use Rattle.paper.specs.Base.{choose, sameb, any, keep, gather}
-use Rattle.paper.specs.Frames.{member, index, Pair, pair, pairs-in, mandatory-in, same-pair, new-pairs, pairs-by, pairs}
+use Rattle.paper.specs.Variables.{member, index}
+use Rattle.paper.specs.Pairs.{Pair, pair, pairs-in, mandatory-in, same-pair, new-pairs, pairs-by, pairs}
 use Rattle.paper.proofs.Tests.{split, clash, eqb-ne, same-eq, eq-same}
 use Rattle.paper.proofs.Alls.{All, all-none, all-more, all-append}
 use Rattle.paper.proofs.Searches.{any-left, any-right}

@@ -16,7 +16,8 @@ use Rattle.paper.specs.Statements.{Kind, $c, $v, $d, $f, $e, $a, $p, Statement,
 use Rattle.paper.specs.Reader.{given, items}
 use Rattle.paper.specs.State.{State, nothing, view, plus}
 use Rattle.paper.specs.Checks.{Diag, token, check-label, check-float, check-expression, check-disjoint}
-use Rattle.paper.specs.Frames.{Frame, formula}
+use Rattle.paper.specs.Variables.{formula}
+use Rattle.paper.specs.Frames.{Frame}
 use Rattle.paper.specs.Give.{Given, accept, unless, give-c, give-v, give-d, give-f, give-e, give-assertion, give-by, give, gives, all-given}
 use Rattle.paper.specs.Records.{u32, diag-record, frame-record, frame-records, diag-records, frame-stream, diag-stream}
 use Rattle.paper.specs.Answer.{crowded, frame-at, frames-in, streams}

@@ -12,7 +12,8 @@ use Rattle.paper.specs.Statements.{Kind, $c, $v, $d, $f, $e, $a, $p, Statement,
 use Rattle.paper.specs.Reader.{given, items}
 use Rattle.paper.specs.State.{Symbol, con, var, Formula, Hyp, float, essential, Disjoint, State, nothing, plus, active-hyp, active-disjoint, view, Sense, inactive, constant, variable, sense}
 use Rattle.paper.specs.Checks.{Diag, token, check-label, check-float, check-expression, check-disjoint}
-use Rattle.paper.specs.Frames.{Frame, symbol-of, symbol, formula}
+use Rattle.paper.specs.Variables.{symbol-of, symbol, formula}
+use Rattle.paper.specs.Frames.{Frame}
 use Rattle.paper.specs.Give.{Given, accept, unless, give-c, give-v, give-d, give-f, give-e, give-assertion, give-by, give}
 use Rattle.paper.proofs.Tests.{split}
 use Rattle.paper.proofs.Sums.{total, total-append, total-keep}

@@ -14,7 +14,7 @@ use Rattle.paper.specs.Statements.{Kind, $c, $v, $d, $f, $e, $a, $p, Statement,
 use Rattle.paper.specs.Names.{named, bearer, labels, owner, declarations, declared, global}
 use Rattle.paper.specs.State.{Nested, State, sense}
 use Rattle.paper.specs.Checks.{Diag, each, token, check-label, outer-token, check-outer, verdict, records, nested-records, nested-diags, check-float, symbol-token, check-expression, disjoint-token, check-disjoint}
-use Rattle.paper.specs.Frames.{symbol, formula}
+use Rattle.paper.specs.Variables.{symbol, formula}
 use Rattle.paper.specs.Give.{give-c, give-v, give-d, give-f, give-e, give-assertion, give-by, give}
 use Rattle.paper.proofs.Tests.{split, same-refl}
 use Rattle.paper.proofs.Lists.{gather-append, keep-append, find-append}

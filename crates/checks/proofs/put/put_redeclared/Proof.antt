@@ -1,6 +1,4 @@
-use mathlib.Core.Path.{_≡_, sym, ap, _∙_, refl}
-use borrow.Author.Tests.{eq-eqb, ne-eqb}
-use Rattle.checks.proofs.Told.{told, silent}
+use Rattle.checks.proofs.Told.{silent}
 use borrow.Author.Needs.{needs}
 use Rattle.checks.proofs.put.put_redeclared.Statement.{statement}
 use Rattle.checks.proofs.put.put_redeclared.Tie as tie

@@ -1,6 +1,4 @@
-use mathlib.Core.Path.{_≡_, sym, ap, _∙_, refl}
-use native.Mathlib.Omega.{arith}
-use Prim.Native.Nat.{_+_, _-_, _*_, _<_, _≤_}
+use mathlib.Core.Path.{sym, ap, _∙_}
 use Rattle.checks.specs.Found.{verdict-known}
 use borrow.Author.Needs.{needs}
 use Rattle.checks.proofs.tokens.by_known.Statement.{statement}

@@ -1,6 +1,3 @@
-use mathlib.Core.Path.{_≡_, sym, ap, _∙_, refl}
-use native.Mathlib.Omega.{arith}
-use Prim.Native.Nat.{_+_, _-_, _*_, _<_, _≤_}
 use Rattle.checks.proofs.Ones.{clash-one}
 use borrow.Author.Needs.{needs}
 use Rattle.checks.proofs.tokens.check_clash.Statement.{statement}

@@ -1,6 +1,4 @@
-use mathlib.Core.Path.{_≡_, sym, ap, _∙_, refl}
 use native.Mathlib.Omega.{arith}
-use Prim.Native.Nat.{_+_, _-_, _*_, _<_, _≤_}
 use Rattle.checks.proofs.Ones.{nested-against, nested-recorded}
 use borrow.Author.Needs.{needs}
 use Rattle.checks.proofs.tokens.check_nested.Statement.{statement}

@@ -1,6 +1,5 @@
-use mathlib.Core.Path.{_≡_, sym, ap, _∙_, refl}
+use mathlib.Core.Path.{sym, _∙_}
 use native.Mathlib.Omega.{arith}
-use Prim.Native.Nat.{_+_, _-_, _*_, _<_, _≤_}
 use Rattle.checks.specs.Tokens.{earlier-slot}
 use Rattle.checks.proofs.Ones.{float-row}
 use borrow.Author.Needs.{needs}

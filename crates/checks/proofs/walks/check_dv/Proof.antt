@@ -1,7 +1,3 @@
-use mathlib.Core.Path.{_≡_, sym, ap, _∙_, refl}
-use native.Mathlib.Omega.{arith}
-use Prim.Native.Nat.{_+_, _-_, _*_, _<_, _≤_}
-use lib.ListN.{length}
 use Rattle.slots.proofs.Kept.{room-kept}
 use Rattle.checks.proofs.OverRows.{atoms-kept, dv-forgot}
 use borrow.Author.Needs.{needs}

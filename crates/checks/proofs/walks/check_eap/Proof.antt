@@ -1,7 +1,5 @@
-use mathlib.Core.Path.{_≡_, sym, ap, _∙_, refl}
 use native.Mathlib.Omega.{arith}
-use Prim.Native.Nat.{_+_, _-_, _*_, _<_, _≤_}
-use lib.ListN.{length}
+use Prim.Native.Nat.{_-_}
 use Rattle.slots.proofs.Kept.{kept-none}
 use Rattle.checks.proofs.OverRows.{can-token, InvEap, eap-start, eap-step, eap-end}
 use borrow.Author.Needs.{needs}

@@ -2,7 +2,7 @@ use mathlib.Core.Path.{_≡_, sym, _∙_}
 use mathlib.Core.Bool.{false}
 use Prim.Native.Nat.{_-_, _≤_}
 use native.Mathlib.Omega.{arith}
-use Rattle.paper.specs.Frames.{member}
+use Rattle.paper.specs.Variables.{member}
 use Rattle.nameck.specs.Table.{names-of}
 use Rattle.nameck.proofs.Search.{spans-fewer, none-yet, none-here, found-here, found-none}
 use borrow.Author.Needs.{needs}

@@ -1,6 +1,5 @@
-use mathlib.Core.Path.{_≡_, sym, ap, _∙_, refl}
 use native.Mathlib.Omega.{arith}
-use Prim.Native.Nat.{_+_, _-_, _*_, _<_, _≤_}
+use Prim.Native.Nat.{_-_}
 use Rattle.scopeck.proofs.Whole.{InvRows, rows-start, some-before, rows-step, rows-end}
 use borrow.Author.Needs.{needs}
 use Rattle.scopeck.proofs.fold.check_rows.Statement.{statement}

@@ -1,6 +1,4 @@
-use mathlib.Core.Path.{_≡_, sym, ap, _∙_, refl}
 use native.Mathlib.Omega.{arith}
-use Prim.Native.Nat.{_+_, _-_, _*_, _<_, _≤_}
 use Rattle.slots.proofs.Kept.{room-kept}
 use Rattle.scopeck.proofs.Whole.{before-room, deep-ess, deep-dis, ready-of, steps-of}
 use borrow.Author.Needs.{needs}

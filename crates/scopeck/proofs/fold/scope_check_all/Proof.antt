@@ -1,6 +1,3 @@
-use mathlib.Core.Path.{_≡_, sym, ap, _∙_, refl}
-use native.Mathlib.Omega.{arith}
-use Prim.Native.Nat.{_+_, _-_, _*_, _<_, _≤_}
 use Rattle.scopeck.proofs.Whole.{names-fit, some-blank, checks-all}
 use borrow.Author.Needs.{needs}
 use Rattle.scopeck.proofs.fold.scope_check_all.Statement.{statement}

@@ -1,7 +1,6 @@
-use mathlib.Core.Path.{_≡_, sym, ap, _∙_, refl}
+use mathlib.Core.Path.{sym, _∙_}
 use native.Mathlib.Omega.{arith}
-use Prim.Native.Nat.{_+_, _-_, _*_, _<_, _≤_}
-use Rattle.scopeck.proofs.Ready.{row-room, small-place, walk-of, floats-of, walk-part, can-labelled, two-rows, can-float}
+use Rattle.scopeck.proofs.Ready.{row-room, can-labelled, two-rows, can-float}
 use Rattle.scopeck.proofs.ByKind.{later-bearer, float-rejected, float-accepted}
 use borrow.Author.Needs.{needs}
 use Rattle.scopeck.proofs.kinds.scope_check_float.Statement.{statement}

@@ -1,4 +1,3 @@
-use mathlib.Core.Path.{_≡_, sym, ap, _∙_, refl}
 use Rattle.area.specs.Cells.{word}
 use borrow.Author.Needs.{needs}
 use Rattle.slots.proofs.cells.of_statement.Statement.{statement}

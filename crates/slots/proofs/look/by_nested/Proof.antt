@@ -1,4 +1,4 @@
-use mathlib.Core.Path.{_≡_, sym, ap, _∙_, refl}
+use mathlib.Core.Path.{sym, ap, _∙_}
 use Rattle.slots.specs.Slots.{sense-nested, checked-of}
 use borrow.Author.Needs.{needs}
 use Rattle.slots.proofs.look.by_nested.Statement.{statement}

@@ -1,4 +1,3 @@
-use mathlib.Core.Path.{_≡_, sym, ap, _∙_, refl}
 use Rattle.slots.specs.Slots.{with-float}
 use borrow.Author.Needs.{needs}
 use Rattle.slots.proofs.look.record_float.Statement.{statement}

@@ -1,5 +1,4 @@
-use mathlib.Core.Path.{_≡_, sym, ap, _∙_, refl}
-use Prim.Native.Nat.{_-_, _+_, _*_, _<_, _≤_}
+use Prim.Native.Nat.{_-_, _+_}
 use native.Mathlib.Omega.{arith}
 use Rattle.slots.proofs.Kept.{room-kept}
 use Rattle.slots.proofs.Marks.{InvForget, forget-start, forget-step, forget-end}

@@ -1,6 +1,4 @@
-use mathlib.Core.Path.{_≡_, sym, ap, _∙_, refl}
-use borrow.Author.Tests.{eq-eqb, ne-eqb}
-use Rattle.slots.specs.Marks.{mark-slot}
+use mathlib.Core.Path.{sym, _∙_}
 use Rattle.slots.proofs.Marks.{mark-nothing, mark-at}
 use borrow.Author.Needs.{needs}
 use Rattle.slots.proofs.mark.see.Statement.{statement}

@@ -1,5 +1,5 @@
-use mathlib.Core.Path.{_≡_, sym, ap, _∙_, refl}
-use Prim.Native.Nat.{_-_, _+_, _*_, _<_, _≤_}
+use mathlib.Core.Path.{_≡_, sym, _∙_, refl}
+use Prim.Native.Nat.{_-_, _≤_}
 use native.Mathlib.Omega.{arith}
 use Rattle.slots.specs.Stack.{pop-of}
 use Rattle.slots.proofs.Stacks.{pop-stop, pop-more, pop-zero, end-is}
