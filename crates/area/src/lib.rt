@@ -2,10 +2,10 @@
 // of w columns holds rows of w words, one after the other, so that the words of one thing stand together.
 //
 // | columns | block     | row                       | words of a row                                              |
-// | 0-3     | statement | s-th statement, 12 words  | KIND to DIS below                                           |
-// | 4-6     | name      | a-th distinct name        | START, STOP, UNTIL                                          |
-// | 7       | bucket    | b-th bucket               | while reading: the end of the b-th group                    |
-// | 8-14    | symbol    | a-th distinct name        | OWNER to MARK below; while reading, AROUND of the a-th group |
+// | 0-3     | statement | s-th statement, 12 words  | KIND to DIS below; the word 9 is spare                      |
+// | 4-6     | name      | a-th distinct name        | START, STOP; the word 2 is spare                            |
+// | 7       | bucket    | b-th bucket               | while reading: what the b-th item is                        |
+// | 8-14    | symbol    | a-th distinct name        | OWNER to MARK below; while reading, the ends of open groups |
 // | 15      | math      | t-th math token           | its offset after reading, its atom after naming             |
 //
 // A statement has three tokens or more, so the four columns of the first block hold a row of 12 words for each.
@@ -22,18 +22,16 @@ pub const AT: usize = 1;
 pub const LABEL: usize = 2;
 // where the math string starts, after the keyword
 pub const FROM: usize = 3;
-// where it stops, at `$.` or `$=`
+// where it stops, after its last token; `$.` or `$=` is next
 pub const TO: usize = 4;
 // the number of math tokens of the text before this statement
 pub const FIRST: usize = 5;
 // the number of math tokens of this statement
 pub const COUNT: usize = 6;
-// the group (number + 1, 0 for none) while reading; then the statement's end
+// the statement's end
 pub const END: usize = 7;
-// accepted `$e`, `$a`, `$p`: bytes of the constants after the typecode
-pub const CONSTS: usize = 8;
-// accepted `$e`, `$a`, `$p`: variables after the typecode
-pub const VARS: usize = 9;
+// 1 once the statement was accepted, or 0
+pub const ACCEPTED: usize = 8;
 // row k: statement row of the k-th active accepted `$e`
 pub const ESS: usize = 10;
 // row k: statement row of the k-th active accepted `$d`
@@ -43,8 +41,6 @@ pub const DIS: usize = 11;
 pub const START: usize = 0;
 
 pub const STOP: usize = 1;
-// a token of this name is good in an expression at an offset below it
-pub const UNTIL: usize = 2;
 
 // offset + 1 of the first bearer of the label; 0 for none
 pub const OWNER: usize = 0;
@@ -56,13 +52,10 @@ pub const NESTED: usize = 2;
 pub const NESTED_END: usize = 3;
 // statement row + 1 of the latest accepted `$f`; 0 for none
 pub const FLOAT: usize = 4;
-// number + 1 in the frame in hand
+// number + 1 in the frame in hand; 4294967295 for a constant
 pub const NUMBER: usize = 5;
 // token index + 1 in the `$d` in hand, or the turn of the pair count; 0 between statements
 pub const MARK: usize = 6;
-
-// while reading: the group (number + 1, 0 for none) around a group
-pub const AROUND: usize = 0;
 
 // the end of what stands outermost
 pub const NO_END: u32 = 4294967295;

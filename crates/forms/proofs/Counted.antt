@@ -18,8 +18,10 @@ use Rattle.paper.proofs.Tests.{split, clash, same-refl, same-eq, eqb-ne}
 use Rattle.paper.proofs.Names.{same-sym, index-at, index-lt, member-at, Grown, grown-length, grown-index, Distinct}
 use Rattle.area.specs.Cells.{statement-cell, word}
 use Rattle.reader.specs.Rows.{stmt}
-use Rattle.sight.specs.Static.{static, hyp-by, row-hyp, stack}
-use Rattle.forms.specs.HypRows.{among, floating, essential-kind, is-float, is-essential, variable-at, FloatRow, HypRows, HypState}
+use Rattle.sight.specs.Static.{static, row-hyp, stack}
+use Rattle.history.specs.Accepted as history
+use Rattle.history.proofs.Rows as by-kind
+use Rattle.forms.specs.HypRows.{among, floating, is-float, is-essential, variable-at, FloatRow, HypRows, HypState}
 use Rattle.forms.proofs.Order.{Up, rising, among-above}
 
 -- ---- the hypothesis of a row, by its kind
@@ -32,7 +34,7 @@ float-kind $e e = absurd (clash (sym e))
 float-kind $a e = absurd (clash (sym e))
 float-kind $p e = absurd (clash (sym e))
 
-essential-is : (k : Kind) → essential-kind k ≡ true → k ≡ $e
+essential-is : (k : Kind) → history.is-essential k ≡ true → k ≡ $e
 essential-is $c e = absurd (clash (sym e))
 essential-is $v e = absurd (clash (sym e))
 essential-is $d e = absurd (clash (sym e))
@@ -41,17 +43,15 @@ essential-is $e e = refl
 essential-is $a e = absurd (clash (sym e))
 essential-is $p e = absurd (clash (sym e))
 
-not-both : (k : Kind) → floating k ≡ true → essential-kind k ≡ false
-not-both k e = ap essential-kind (float-kind k e)
+not-both : (k : Kind) → floating k ≡ true → history.is-essential k ≡ false
+not-both k e = ap history.is-essential (float-kind k e)
 
 module _ (l : List Statement) (r : ℕ) where
   pub row-float : is-float l r ≡ true → row-hyp l r ≡ float (stmt l r .at) (stmt l r .end) (variable-at l r) (token (stmt l r) 0 .bytes)
-  unfolding row-hyp
-  row-float e = ap (λ k. hyp-by k l (stmt l r)) (float-kind (stmt l r .kind) e)
+  row-float e = by-kind.row-float l r (float-kind (stmt l r .kind) e)
 
   pub row-essential : is-essential l r ≡ true → row-hyp l r ≡ essential (stmt l r .at) (stmt l r .end) (static l (stmt l r))
-  unfolding row-hyp
-  row-essential e = ap (λ k. hyp-by k l (stmt l r)) (essential-is (stmt l r .kind) e)
+  row-essential e = by-kind.row-essential l r (essential-is (stmt l r .kind) e)
 
 -- ---- the rows of mandatory `$f`, and those of one variable
 abbrev mandatory-float : List (List ℕ) → List Statement → ℕ → Bool

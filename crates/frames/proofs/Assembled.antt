@@ -5,11 +5,10 @@ use mathlib.Core.Bool.{Bool, true, false}
 use mathlib.Core.List.{List, [], _∷_, _++_, map}
 use Prim.Native.Nat.{ℕ, zero, suc, _+_, _*_, _<_, _≤_}
 use native.Mathlib.Omega.{arith}
-use lib.Dec.{eqb, ltb}
+use lib.Dec.{ltb}
 use lib.ListN.{length, getD, drop}
-use borrow.Author.Tests.{eqb-true}
-use Rattle.paper.specs.Base.{choose, sameb, any, keep, gather}
-use Rattle.paper.specs.Statements.{Kind, $c, $v, $d, $f, $e, $a, $p, Statement}
+use Rattle.paper.specs.Base.{sameb, keep, gather}
+use Rattle.paper.specs.Statements.{Statement}
 use Rattle.paper.specs.Checks.{token}
 use Rattle.paper.specs.Variables.{member, index, sights, variables-of, mandatory}
 use Rattle.paper.specs.Pairs.{in-order}
@@ -26,9 +25,9 @@ use Rattle.sight.specs.Static.{constant-name, static, row-hyp, row-disjoint, st
 use Rattle.sight.specs.Numbered.{Numbered, Renumbered, scanned, scanned-rows, Holds, SomeHold}
 use Rattle.sight.proofs.Walks.{kept-renumbered}
 use Rattle.sight.proofs.Stacks.{stack-length}
-use Rattle.history.specs.Accepted as history
 use Rattle.forms.specs.Ready.{Ready}
-use Rattle.forms.specs.HypRows.{among, essential-kind, is-essential, FloatRow, HypRows, HypState}
+use Rattle.forms.proofs.StackRows.{among-keep}
+use Rattle.forms.specs.HypRows.{among, is-essential, FloatRow, HypRows, HypState}
 use Rattle.disjoint.specs.Written.{names-at, Names, Active}
 use Rattle.frames.specs.Front.{record-kind, OfAssertion}
 use Rattle.frames.specs.InHand.{InHand, Whole}
@@ -82,32 +81,6 @@ assertion-renumbered x y =
       kind = y .kind;
     }
 
--- ---- the kinds of two crates are one
-same-kind : (k : Kind) → essential-kind k ≡ history.is-essential k
-same-kind $c = refl
-same-kind $v = refl
-same-kind $d = refl
-same-kind $f = refl
-same-kind $e = refl
-same-kind $a = refl
-same-kind $p = refl
-
-keep-same : (l : List Statement) (h : List ℕ) → keep (is-essential l) h ≡ keep (λ r. history.is-essential (stmt l r .kind)) h
-unfolding keep
-keep-same l [] = refl
-keep-same l (r ∷ h) = rw (same-kind (stmt l r .kind), keep-same l h)
-
-among-keep :
-    (p : ℕ → Bool) (h : List ℕ) (r : ℕ) → among r h ≡ true → p r ≡ true → among r (keep p h) ≡ true
-unfolding among any keep
-among-keep p [] r a e = a
-among-keep p (q ∷ h) r a e =
-    split (eqb r q)
-    (λ z. let d : q ≡ r = sym (eqb-true r q z) in let g : p q ≡ true = ap p d ∙ e in rw (g, z))
-    (λ z.
-    let b = among-keep p h r (rw z at a) e in
-    split (p q) (λ g. rw (g, z) b) (λ g. rw g b))
-
 -- ---- the variables
 abbrev numbered-first : List Statement → List ℕ → ℕ → ℕ → List (List ℕ)
 numbered-first l w es row = scanned l (drop 1 (stmt l row .math)) (scanned-rows l 1 (stack w 10 es) [])
@@ -118,7 +91,7 @@ module _ {t w : List ℕ} {n : ℕ} {l : List Statement} {h : List ℕ} {row es 
   needed-is =
       sym
       (mandatory-scanned l h (stmt l row) (f .kinds)
-      ∙ ap (λ e. scanned l (drop 1 (stmt l row .math)) (scanned-rows l 1 e [])) (sym (keep-same l h) ∙ f .hyps .essentials))
+      ∙ ap (λ e. scanned l (drop 1 (stmt l row .math)) (scanned-rows l 1 e [])) (f .hyps .essentials))
 
   names-free : {d : List ℕ} → All (Apart l) d → All (λ r. All (λ x. constant-name l (x .bytes) ≡ false) (stmt l r .math)) d
   names-free all-none = all-none

@@ -18,9 +18,6 @@ ghost use Rattle.area.specs.Cells.{statement-cell, word};
 ghost use Rattle.slots.specs.Kept.{Room};
 ghost use Rattle.scopeck.specs.Fold.{SomeText, GivesText, accept-word, SomeBefore, Steps, Forgotten, SomeBlank, ChecksBlank, SomeWhole, ChecksAll};
 
-/// The word of a statement's row that is 1 if it is accepted, else 0.
-pub const ACCEPTED: usize = 8;
-
 /// A `$c` or `$v`, whose math string is a part of the text.
 pub fn check_declaration(
     text: &[u8],
@@ -76,9 +73,9 @@ pub fn mark_accepted(work: &mut [u32], n: usize, row: usize, before: usize, afte
     ensures { λ r. ⌜ now (work .exit) ≡ set (now (work .entry)) (statement-cell row 8) (accept-word before after) ⌝ }
 {
     if before == after {
-        put_statement(work, n, row, ACCEPTED, 1);
+        put_statement(work, n, row, area::ACCEPTED, 1);
     } else {
-        put_statement(work, n, row, ACCEPTED, 0);
+        put_statement(work, n, row, area::ACCEPTED, 0);
     }
 }
 

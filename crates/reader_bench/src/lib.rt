@@ -1,0 +1,26 @@
+// The reader for `bench/read`, which times it and tries the longest texts.
+use paper::Reading;
+use paper::Refusal;
+
+fn number(x: Refusal) -> u32 {
+    match x {
+        Refusal::LongText => 1,
+        Refusal::ShortWork(_) => 2,
+        Refusal::BadByte(_) => 3,
+        Refusal::OpenComment(_) => 4,
+        Refusal::BadToken(_) => 5,
+        Refusal::OpenText(_) => 6,
+        Refusal::ManyVariables(_) => 7,
+        Refusal::ShortFrames(_) => 8,
+        Refusal::ShortDiags(_) => 9,
+    }
+}
+
+// Reads a text: 0, or the number of the refusal.
+#[no_mangle]
+pub extern "C" fn reader_bench_read(text: &[u8], work: &mut [u32]) -> u32 {
+    match reader::read(text, work) {
+        Reading::Read(_, _) => 0,
+        Reading::Unread(x) => number(x),
+    }
+}
