@@ -6,3 +6,4 @@ pub mod Framing
 pub mod Turns
 pub mod Kept
 pub mod Folds
+pub mod Short

@@ -36,7 +36,7 @@ unfolding le
 le-length zero n = refl
 le-length (suc k) n = ap suc (le-length k (n / 256))
 
-u16-length : (n : ℕ) → length (u16 n) ≡ 2
+pub u16-length : (n : ℕ) → length (u16 n) ≡ 2
 unfolding u16
 u16-length n = le-length 2 n
 

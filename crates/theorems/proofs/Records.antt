@@ -1,10 +1,9 @@
 -- Every record of both streams is sound: framed, short, with its statement's offset after length and kind.
 -- So the walk by length fields finds exactly the records.
 use mathlib.Core.Path.{_≡_, refl, sym, ap, _∙_}
-use mathlib.Core.Bool.{false}
 use mathlib.Core.List.{List, [], _∷_, _++_}
 use mathlib.Core.Option.{none}
-use Prim.Native.Nat.{ℕ, _+_, _<_, _≤_}
+use Prim.Native.Nat.{ℕ, _<_, _≤_}
 use native.Mathlib.Omega.{arith}
 use lib.ListN.{length, length-append}
 use lib.Dec.{ltb}
@@ -12,76 +11,29 @@ use borrow.Author.Tests.{eq-eqb, lt-ltb}
 use Rattle.paper.specs.Lookup.{u32-at}
 use Rattle.paper.specs.Base.{find, gather}
 use Rattle.paper.specs.Tokens.{tokens}
-use Rattle.paper.specs.Statements.{Kind, $c, $v, $d, $f, $e, $a, $p, Statement, outermost, Item, ends}
+use Rattle.paper.specs.Statements.{Statement, Item, ends}
 use Rattle.paper.specs.Reader.{given, items}
-use Rattle.paper.specs.State.{State, nothing, view, plus}
-use Rattle.paper.specs.Checks.{Diag, token, check-label, check-float, check-expression, check-disjoint}
-use Rattle.paper.specs.Variables.{formula}
+use Rattle.paper.specs.State.{nothing}
+use Rattle.paper.specs.Checks.{Diag}
 use Rattle.paper.specs.Frames.{Frame}
-use Rattle.paper.specs.Give.{Given, accept, unless, give-c, give-v, give-d, give-f, give-e, give-assertion, give-by, give, gives, all-given}
+use Rattle.paper.specs.Give.{Given, all-given}
 use Rattle.paper.specs.Records.{u32, diag-record, frame-record, frame-records, diag-records, frame-stream, diag-stream}
 use Rattle.paper.specs.Answer.{crowded, frame-at, frames-in, streams}
-use Rattle.paper.proofs.Tests.{split}
 use Rattle.paper.proofs.Lists.{gather-append}
 use Rattle.paper.proofs.Sums.{total}
-use Rattle.paper.proofs.Alls.{All, all-none, all-more, all-map, all-both}
+use Rattle.paper.proofs.Alls.{All, all-map, all-both}
 use Rattle.paper.proofs.Searches.{all-gather, find-none, all-true}
 use Rattle.theorems.specs.TakenOut.{taken-out}
 use Rattle.theorems.specs.Demand3.{Offsets, diags-in, Exact, Walked}
-use Rattle.theorems.proofs.Reader.{statement-weight, reads-at}
+use Rattle.theorems.proofs.Reader.{reads-at}
 use Rattle.theorems.proofs.Ends.{ends-at}
 use Rattle.theorems.proofs.Parts.{items-read, read-reads, shown-at}
 use Rattle.theorems.proofs.Streams.{offset-framed, Sound, taken-gather}
 use Rattle.theorems.proofs.Offsets.{give-at, diags-at, frames-at}
-use Rattle.theorems.proofs.Weights.{statements-weight, text-weight, state-weight, view-weight, plus-weight, formula-light, two-light, light}
-use Rattle.theorems.proofs.Lengths.{u32-length, kind-of, rest-of, frame-framed, Short, stub-short, full-short}
+use Rattle.theorems.proofs.Weights.{statements-weight, text-weight}
+use Rattle.theorems.proofs.Lengths.{u32-length, kind-of, rest-of, frame-framed, Short}
+use Rattle.theorems.proofs.Short.{gives-short}
 use Rattle.theorems.proofs.Refusals.{Passed, passed, answered}
-
--- ---- frames are short
-abbrev Fit : Frame → Type 0
-Fit x = crowded x ≡ false → Short x
-
-accept-short : (d : List Diag) (r : State) {f : List Frame} → All Fit f → All Fit (accept d r f .frame)
-accept-short [] r a = a
-accept-short (x ∷ d) r a = all-none
-
-unless-short : (d : List Diag) (g : Given) → All Fit (g .frame) → All Fit (unless d g .frame)
-unless-short [] g a = a
-unless-short (x ∷ d) g a = all-none
-
-short-by : (k : Kind) (w : List Statement) (v : State) (s : Statement)
-    → state-weight v + statement-weight s ≤ 16777217 → All Fit (give-by k w v s .frame)
-unfolding give-c give-v give-d give-f give-e give-assertion
-short-by $c w v s h = split (outermost s) (λ e. rw e all-none) (λ e. rw e all-none)
-short-by $v w v s h = split (outermost s) (λ e. rw e all-none) (λ e. rw e all-none)
-short-by $d w v s h = accept-short (check-disjoint w v s) _ all-none
-short-by $f w v s h =
-    unless-short (check-label w s) _
-    (accept-short (check-float w v s) _
-    (all-more
-    (λ c.
-    stub-short (s .at) (s .end) (s .label) (token s 0 .bytes) (token s 1 .bytes)
-    (omega (arith, two-light s (s .math) refl)))
-    all-none))
-short-by $e w v s h = unless-short (check-label w s) _ (accept-short (check-expression w v s) _ all-none)
-short-by $a w v s h =
-    unless-short (check-label w s) _
-    (accept-short (check-expression w v s) _
-    (all-more (full-short 2 s v (formula w v s) (omega (arith, formula-light w v s))) all-none))
-short-by $p w v s h =
-    unless-short (check-label w s) _
-    (accept-short (check-expression w v s) _
-    (all-more (full-short 3 s v (formula w v s) (omega (arith, formula-light w v s))) all-none))
-
-gives-short : (w l : List Statement) (x : State) → state-weight x + statements-weight l ≤ 16777217
-    → All (λ g. All Fit (g .frame)) (gives w l x)
-unfolding gives give total
-gives-short w [] x h = all-none
-gives-short w (s ∷ l) x h =
-    let v = view x (s .at) in
-    let r = give w v s .records in
-    all-more (short-by (s .kind) w v s (omega (arith, view-weight x (s .at))))
-    (gives-short w l (plus x r) (omega (arith, plus-weight x r, light w v s)))
 
 -- ---- where the statements of a text stand
 pub text-at : (t : List ℕ) (i : List Item) → items (tokens t) (length t) ≡ given i
