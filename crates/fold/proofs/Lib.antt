@@ -7,3 +7,4 @@ pub mod Turns
 pub mod Kept
 pub mod Folds
 pub mod Short
+pub mod Starts

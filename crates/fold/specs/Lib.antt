@@ -1,2 +1,3 @@
 pub mod Turn
 pub mod Fold
+pub mod Start
