@@ -1,4 +1,4 @@
-# Writes this program's cases, `stdin`, and what it must write, `stdout`:
+# Writes this program's cases, `data/cases`, and what it must write, `stdout`:
 #     python3 make.py MODEL VECTORS
 # MODEL is the folder of model.py, document 01 as a program, which reads every text; VECTORS is a file of lines
 # `name text work-words ..`, of which the short texts are taken.
@@ -72,7 +72,7 @@ for line in open(sys.argv[2]):
         add(bytes.fromhex(word[1]), min(int(word[2]), MOST - 1))
 
 here = os.path.dirname(os.path.abspath(__file__))
-with open(os.path.join(here, "stdin"), "wb") as f:
+with open(os.path.join(here, "data", "cases"), "wb") as f:
     for text, words in cases:
         f.write(struct.pack("<HH", len(text), words) + text)
 with open(os.path.join(here, "stdout"), "w") as f:
