@@ -52,7 +52,9 @@ for text in (b"", b" ", b" \t\n\f\r ", b"$( a $)", b"$( a", b"$(", b"a $(", b"$(
              b"${", b"${ $}", b"${ $} $}", b"${ ${ $}", b"a", b"a b", b"$c a $. a", b"$c $.", b"$c a", b"$c a $c", b"$v $.", b"$v x $.", b"$d x $.",
              b"$d x y $.", b"$d $.", b"a $f x $.", b"a $f x y $.", b"a $f x y z $.", b"$f x y $.", b"a $e $.", b"a $e x $.", b"$e x $.", b"a $a $.",
              b"a $a x $.", b"a $p x $.", b"a $p $= x $.", b"a $p x $= $.", b"a $p x $= y $.", b"a $p x $= y", b"a $p x $= $( y $) $.",
-             b"a $p x $= y $= z $.", b"a $p x $= y $( $. $) z $( $) $.", b"a $c x $.", b"a# $a x $.", b"a.-_Z9 $a x $.", b"$a", b"$", b"$$", b"$x", b"x$", b"$c a$b $.",
+             b"a $p x $= y $= z $.", b"a $p x $= y $( $. $) z $( $) $.", b"a $p x $= y zz\t$.", b"a $p x $= y zz", b"a $p x $= y zz ", b"a $p x $= y z$ $.",
+             b"a $p x $= yy$.", b"a $p x $= y zz$( c $) $.", b"a $p x $= y z $( c", b"a $p x $= y $( c $) z", b"a $p x $= y $( c $) z$. $.", b"a $p x $= y $",
+             b"a $p x $= y z $c $.", b"a $p x $= y$z w", b"a $c x $.", b"a# $a x $.", b"a.-_Z9 $a x $.", b"$a", b"$", b"$$", b"$x", b"x$", b"$c a$b $.",
              b"$c $( c $) a $( d $) b $( e $) $.", b"$c a $( $.", b"a $( c $) $a $( d $) x $( e $) $.", b"${ $v x $. ${ $v y $. $} $v z $. $} $v w $.",
              b"$( $) $c a $. $)", b"$.", b"$=", b"$c\fa\r$.", WHOLE):
     add(text)
