@@ -8,23 +8,27 @@ use native.Mathlib.Omega.{arith}
 use lib.Dec.{eqb, ltb}
 use lib.ListN.{length, getD, take, drop, length-drop}
 use lib.Seq.{getD-drop, getD-take, length-take-le}
-use borrow.Author.Tests.{le-leb, ltb-true, ltb-false, eqb-true}
+use borrow.Author.Tests.{le-leb, lt-leb, ltb-true, ltb-false, eqb-true, ne-eqb}
 use Rattle.paper.specs.Base.{all}
 use Rattle.paper.specs.Bytes.{white, math-byte}
-use Rattle.paper.specs.Tokens.{Token, put, prefix, run, toks, math-token}
-use Rattle.paper.specs.Comments.{outside, next, after, shown, visible}
+use Rattle.paper.specs.Tokens.{Token, put, run, toks, math-token}
+use Rattle.paper.specs.Comments.{outside, after, visible}
 use Rattle.paper.proofs.Tests.{split, clash, eqb-ne}
 use Rattle.paper.proofs.Keys.{math-no-key}
 use Rattle.token.specs.Class.{class}
-use Rattle.token.specs.Words.{past-gap, tokens-from}
+use Rattle.token.specs.Words.{tokens-from}
 use Rattle.token.proofs.Classes.{class-white, class-math}
 use Rattle.token.proofs.Words.{gap-step, tokens-skip}
 use Rattle.token.proofs.Parts.{part-tokens}
-use Rattle.reader.specs.Passed.{Passed}
 use Rattle.reader.specs.Hops.{plain, Plain, Begins, Hopped}
 use Rattle.reader.proofs.Passes.{passed-none}
 
--- what the code's two comparisons say of a byte b of class c
+-- what the code's comparisons say of a byte b of class c
+pub odd-class : (b : ℕ) (c : ℕ) → c ≡ class b → (c ≡ 1 → ⊥) → c < 3 → plain b ≡ false
+odd-class b c p n l =
+    rw (sym (class-white b) ∙ ne-eqb (class b) 1 (λ e. n (p ∙ e)))
+    (sym (class-math b) ∙ lt-leb 3 (class b) (omega (arith, p)))
+
 pub plain-class : (b : ℕ) {c : ℕ} → c ≡ class b → (c ≡ 2 → ⊥) → (c ≡ 0 → ⊥) → plain b ≡ true
 plain-class b {c} p m n =
     split (white b)
@@ -45,6 +49,14 @@ plain-next {t} {at} {i} h l e =
           (λ q. let z : j ≡ i = eqb-true j i q in rw z e)
           (λ q. let z : j ≡ i → ⊥ = eqb-ne q in h .bytes j a (omega (arith, z)));
     }
+
+-- one byte back, which is no white space
+pub inside-more : (t : List ℕ) (k i : ℕ) → 0 < i → ((j : ℕ) → i ≤ j → j < k → white (getD t j 0) ≡ false) → white (getD t (i - 1) 0) ≡ false
+    → (j : ℕ) → i - 1 ≤ j → j < k → white (getD t j 0) ≡ false
+inside-more t k i l f e j a b =
+    split (eqb j (i - 1))
+    (λ q. let z : j ≡ i - 1 = eqb-true j (i - 1) q in rw z e)
+    (λ q. let z : j ≡ i - 1 → ⊥ = eqb-ne q in f j (omega (arith, z)) b)
 
 -- ---- tokens of such bytes, by the list
 put-plain : (o : ℕ) (h : List ℕ) (l : List Token) → all math-byte h ≡ true → all math-token l ≡ true → all math-token (put o h l) ≡ true

@@ -1,7 +1,7 @@
 -- Proofs passed by their bytes: up to the first that is neither white space nor a math byte, and back to where its token begins.
 -- `t` is the text; between the two places only math tokens stand.
 use mathlib.Core.Path.{_≡_}
-use mathlib.Core.Bool.{Bool, true}
+use mathlib.Core.Bool.{Bool, true, false}
 use mathlib.Core.List.{List}
 use Prim.Native.Nat.{ℕ, _-_, _<_, _≤_}
 use lib.ListN.{length, getD}
@@ -21,11 +21,17 @@ pub record Plain (t : List ℕ) (i k : ℕ) : Type 0 where
   pub within : k ≤ length t
   pub bytes : (j : ℕ) → i ≤ j → j < k → plain (getD t j 0) ≡ true
 
--- from i to k, where white space stands before s
+-- the first other byte from i on, or the end
+pub record Odd (t : List ℕ) (i k : ℕ) : Type 0 where
+  pub upto : Plain t i k
+  pub here : k < length t → plain (getD t k 0) ≡ false
+
+-- the place after the last white space from i up to k, or i
 pub record Begins (t : List ℕ) (i k s : ℕ) : Type 0 where
   pub from : i ≤ s
   pub upto : s ≤ k
   pub opens : i < s → white (getD t (s - 1) 0) ≡ true
+  pub inside : (j : ℕ) → s ≤ j → j < k → white (getD t j 0) ≡ false
 
 -- from i to s stand math tokens, and no others
 pub record Hopped (t : List ℕ) (i s : ℕ) : Type 0 where

@@ -8,13 +8,13 @@ ghost use mathlib.Core.Path.{_≡_};
 ghost use Prim.Native.Nat.{_≤_};
 ghost use lib.ListN.{length};
 ghost use Rattle.token.specs.Class.{classes};
-ghost use Rattle.reader.specs.Hops.{Plain, Begins, Hopped};
+ghost use Rattle.reader.specs.Hops.{Odd, Begins, Hopped};
 ghost use Rattle.reader.specs.Runs.{Proved};
 
 /// The first byte from `at` on that is neither white space nor a math byte, or the length.
 pub fn next_odd(table: &[u8; 256], text: &[u8], at: usize) -> usize
     requires { ⌜ (now table ≡ classes) × (at ≤ length (now text)) ⌝ }
-    ensures { λ r. ⌜ Plain (now (text .entry)) at r ⌝ }
+    ensures { λ r. ⌜ Odd (now (text .entry)) at r ⌝ }
 {
     let mut i = at;
     while i < text.len() {
@@ -45,7 +45,8 @@ pub fn start_of(table: &[u8; 256], text: &[u8], at: usize, k: usize) -> usize
     i
 }
 
-/// A place from `at` on, up to which only math tokens stand: the start of the first token that is none, or of the last of all.
+/// A place from `at` on up to which only math tokens stand. A token starts there, or the text ends, and the bytes of that
+/// token alone are read again: after it the proof goes on only where it starts a comment.
 pub fn past_math(table: &[u8; 256], text: &[u8], at: usize) -> usize
     requires { ⌜ (now table ≡ classes) × (at ≤ length (now text)) ⌝ }
     ensures { λ r. ⌜ Hopped (now (text .entry)) at r ⌝ }

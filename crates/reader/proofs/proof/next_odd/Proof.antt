@@ -1,10 +1,9 @@
-use mathlib.Core.Path.{sym, _∙_}
-use Prim.Native.Nat.{_-_, _≤_}
+use Prim.Native.Nat.{_-_}
 use native.Mathlib.Omega.{arith}
 use native.Mathlib.Nat.{le-refl}
-use lib.ListN.{length, getD}
+use lib.ListN.{length}
 use Rattle.reader.specs.Hops.{Plain}
-use Rattle.reader.proofs.Hops.{plain-class, plain-next}
+use Rattle.reader.proofs.Hops.{odd-class, plain-class, plain-next}
 use borrow.Author.Needs.{needs}
 use Rattle.reader.proofs.proof.next_odd.Statement.{statement}
 use Rattle.reader.proofs.proof.next_odd.Tie as tie
@@ -28,10 +27,10 @@ class-of-requires : tie.Need-class-of-requires Inv-loop μ-loop
 class-of-requires c κs = search needs
 
 returns : tie.Need-returns Inv-loop μ-loop
-returns c = c .before .before .before .before .loop .inv
+returns c = record { upto = c .before .before .before .before .loop .inv; here = λ h. odd-class _ _ (c .before .class-of .ensures) (λ e. omega (arith, e, c .if1 .taken)) (omega (arith, c .if1 .taken)) }
 
 returns-2 : tie.Need-returns-2 Inv-loop μ-loop
-returns-2 c = c .before .before .before .before .before .loop .inv
+returns-2 c = record { upto = c .before .before .before .before .before .loop .inv; here = λ h. odd-class _ _ (c .before .before .class-of .ensures) (λ e. omega (arith, e, c .if2 .taken)) (omega (arith, c .if2 .taken)) }
 
 add-i : tie.Need-add-i Inv-loop μ-loop
 add-i c = search needs
@@ -43,7 +42,7 @@ loop-again : tie.Need-loop-again Inv-loop μ-loop
 loop-again c = plain-next (c .before .before .before .before .before .loop .inv) (search needs) (plain-class _ (c .before .before .class-of .ensures) (c .before .if1 .left) (c .if2 .left))
 
 returns-3 : tie.Need-returns-3 Inv-loop μ-loop
-returns-3 c = c .before .loop .inv
+returns-3 c = record { upto = c .before .loop .inv; here = λ h. absurd (omega arith) }
 
 pub next-odd-spec : {M : Type 1} → statement M
 next-odd-spec =

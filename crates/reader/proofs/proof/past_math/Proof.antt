@@ -14,7 +14,7 @@ start-of-requires : tie.Need-start-of-requires
 start-of-requires c κs = search needs
 
 returns : tie.Need-returns
-returns c = hopped (c .before .next-odd .ensures) (c .start-of .ensures)
+returns c = hopped (c .before .next-odd .ensures .upto) (c .start-of .ensures)
 
 pub past-math-spec : {M : Type 1} → statement M
 past-math-spec = tie.close (tie.spec next-odd-requires start-of-requires returns)

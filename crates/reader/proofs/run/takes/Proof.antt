@@ -1,5 +1,4 @@
 use borrow.Author.Tests.{le-leb, lt-leb}
-use borrow.Author.Needs.{needs}
 use Rattle.reader.proofs.run.takes.Statement.{statement}
 use Rattle.reader.proofs.run.takes.Tie as tie
 use Rattle.reader.proofs.run.takes.Reads as reads
