@@ -53,7 +53,7 @@ def main(argv):
         texts += [bytes.fromhex(fields[1]) if fields[1] != "-" else b"" for fields in lines]
     given, right = b"", b""
     for i, text in enumerate(texts):
-        number, _, frames, _ = model.check(text, 524288, 2359296, 1 << 40)
+        number, _, frames, _ = model.check(text, 524288, 2621440, 1 << 40)
         if number and i >= len(HAND):
             continue
         given += struct.pack("<I", len(text)) + text

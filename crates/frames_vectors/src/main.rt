@@ -112,10 +112,10 @@ fn work_area() -> [u32; 524288]
     [7; 524288]
 }
 
-fn frame_buffer() -> [u8; 2359296]
-    ensures { λ r. ⌜ 2359296 ≡ length r ⌝ }
+fn frame_buffer() -> [u8; 2621440]
+    ensures { λ r. ⌜ 2621440 ≡ length r ⌝ }
 {
-    [0; 2359296]
+    [0; 2621440]
 }
 
 fn main() {
