@@ -5,8 +5,11 @@ use mathlib.Core.List.{List, [], _∷_, map}
 use Prim.Native.Nat.{ℕ}
 use Rattle.paper.specs.Answer.{number, answer-of, answer, frames-of, diags-of, frames-exit, diags-exit}
 use Rattle.paper.specs.declared.Answer.{Answer}
-use Rattle.paper.proofs.Alls.{all-none, all-more}
+use Rattle.paper.proofs.Alls.{All, all-none, all-more}
 use Rattle.paper.proofs.Table.{lent, Case, _gives_, expected, operation, computed}
+use Rattle.paper.proofs.Bench as bench
+use Rattle.paper.proofs.Slips as slips
+use Rattle.paper.proofs.Readings as readings
 use Rattle.theorems.specs.Unique.{Allowed}
 use Rattle.theorems.proofs.Unique.{unique}
 use Rattle.theorems.proofs.Demand3.{demand3}
@@ -34,6 +37,15 @@ tables-hold (c ∷ l) e =
     let a : computed c ≡ expected c = cc in
     let b : map computed l ≡ map expected l = cc in
     all-more (case-holds c a) (tables-hold l b)
+
+pub bench-holds : All Holds bench.cases
+bench-holds = tables-hold bench.cases bench.bench
+
+pub slips-hold : All Holds slips.cases
+slips-hold = tables-hold slips.cases slips.slips
+
+pub readings-hold : All Holds readings.cases
+readings-hold = tables-hold readings.cases readings.readings
 
 -- ---- demand 3
 pub group-taken-out : GroupTakenOut

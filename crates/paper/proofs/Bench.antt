@@ -5,7 +5,7 @@ use mathlib.Core.List.{List, [], _∷_, _++_, map}
 use Rattle.paper.specs.Base.{codes}
 use Rattle.paper.proofs.Table.{Case, lent, result, _gives_, expected, operation, computed, old, zeros, hex}
 
-abbrev cases : List Case
+abbrev pub cases : List Case
 cases =
     -- empty text, answer 0
     (lent [] (old 16) (old 4) (old 4)

@@ -5,7 +5,7 @@ use mathlib.Core.List.{List, [], _∷_, map}
 use Rattle.paper.specs.Base.{codes}
 use Rattle.paper.proofs.Table.{Case, lent, result, _gives_, expected, operation, computed, old, zeros, hex}
 
-abbrev cases : List Case
+abbrev pub cases : List Case
 cases =
     -- tokens of comments count in N, `$(` and `$)` too: 3 × 16 words
     (lent (codes "$( $)") (old 47) [] []

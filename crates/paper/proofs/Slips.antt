@@ -5,7 +5,7 @@ use mathlib.Core.List.{List, [], _∷_, map}
 use Rattle.paper.specs.Base.{codes}
 use Rattle.paper.proofs.Table.{Case, lent, result, _gives_, expected, operation, computed, old, zeros, hex}
 
-abbrev cases : List Case
+abbrev pub cases : List Case
 cases =
     -- ---- Slips to catch
     -- a pair in the orientation of its first discovery: (1,0), and bits both ways
