@@ -20,7 +20,7 @@ fn diagnose_read(text: &[u8], work: &mut [u32], diags: &mut [u8], rows: usize) -
     ensures { λ r. ⌜ Diagnosed (now (text .entry)) (now (work .entry)) rows (now (diags .entry)) (now (diags .exit)) r ⌝ }
 {
     let at = fold::start::start(text, work, rows);
-    let st = scopeck::fold::scope_check_all(text, work, at.n, diags, rows, at.names);
+    let st = scopeck::statements::scope_check_all(text, work, at.n, diags, rows, at.names);
     st.diags
 }
 

@@ -3,9 +3,9 @@
 use paper::Atom;
 use paper::StatementOffset;
 
-pub mod fold;
 pub mod kinds;
 pub mod rows;
+pub mod statements;
 
 /// How many active accepted `$e` and `$d` there are, and the place reached in the diagnostics.
 pub struct Scope {

@@ -5,7 +5,7 @@ use Rattle.checks_vectors.proofs.diagnose_read.Tie as tie
 use Rattle.checks_vectors.proofs.diagnose_read.Reads as reads
 use Rattle.checks_vectors.proofs.diagnose_read.Lts as lts
 use Rattle.fold.proofs.start.start.Reads as start-reads
-use Rattle.scopeck.proofs.fold.scope_check_all.Reads as scope-check-all-reads
+use Rattle.scopeck.proofs.statements.scope_check_all.Reads as scope-check-all-reads
 
 start-requires : tie.Need-start-requires
 start-requires c κs = search needs

@@ -5,7 +5,7 @@ use Rattle.fold.proofs.all.fold_all.Tie as tie
 use Rattle.fold.proofs.all.fold_all.Reads as reads
 use Rattle.fold.proofs.all.fold_all.Lts as lts
 use Rattle.fold.proofs.all.fold_rows.Reads as fold-rows-reads
-use Rattle.scopeck.proofs.fold.forget_all.Reads as forget-all-reads
+use Rattle.scopeck.proofs.statements.forget_all.Reads as forget-all-reads
 
 forget-all-requires : tie.Need-forget-all-requires
 forget-all-requires c κs = whole-names (c .before .before .before .before .before .pre)

@@ -8,7 +8,7 @@ use Rattle.fold.proofs.all.fold_statement.Tie as tie
 use Rattle.fold.proofs.all.fold_statement.Reads as reads
 use Rattle.fold.proofs.all.fold_statement.Lts as lts
 use Rattle.fold.proofs.turn.frame_statement.Reads as frame-statement-reads
-use Rattle.scopeck.proofs.fold.check_statement.Reads as check-statement-reads
+use Rattle.scopeck.proofs.statements.check_statement.Reads as check-statement-reads
 
 check-statement-requires : tie.Need-check-statement-requires
 check-statement-requires c κs = some-checks (c .before .before .before .before .before .before .pre .0)

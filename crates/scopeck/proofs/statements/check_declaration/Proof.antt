@@ -3,10 +3,10 @@ use native.Mathlib.Omega.{arith}
 use Rattle.scopeck.proofs.Ready.{row-room}
 use Rattle.scopeck.proofs.Whole.{part-is, some-part, text-part, kind-some}
 use borrow.Author.Needs.{needs}
-use Rattle.scopeck.proofs.fold.check_declaration.Statement.{statement}
-use Rattle.scopeck.proofs.fold.check_declaration.Tie as tie
-use Rattle.scopeck.proofs.fold.check_declaration.Reads as reads
-use Rattle.scopeck.proofs.fold.check_declaration.Lts as lts
+use Rattle.scopeck.proofs.statements.check_declaration.Statement.{statement}
+use Rattle.scopeck.proofs.statements.check_declaration.Tie as tie
+use Rattle.scopeck.proofs.statements.check_declaration.Reads as reads
+use Rattle.scopeck.proofs.statements.check_declaration.Lts as lts
 use Rattle.scopeck.proofs.kinds.scope_check_constant.Reads as scope-check-constant-reads
 use Rattle.scopeck.proofs.kinds.scope_check_variable.Reads as scope-check-variable-reads
 use Rattle.slots.proofs.cells.of_statement.Reads as of-statement-reads

@@ -3,11 +3,11 @@ use native.Mathlib.Omega.{arith}
 use Rattle.scopeck.proofs.Ready.{row-room}
 use Rattle.scopeck.proofs.Whole.{some-ready, text-all}
 use borrow.Author.Needs.{needs}
-use Rattle.scopeck.proofs.fold.check_kind.Statement.{statement}
-use Rattle.scopeck.proofs.fold.check_kind.Tie as tie
-use Rattle.scopeck.proofs.fold.check_kind.Reads as reads
-use Rattle.scopeck.proofs.fold.check_kind.Lts as lts
-use Rattle.scopeck.proofs.fold.check_declaration.Reads as check-declaration-reads
+use Rattle.scopeck.proofs.statements.check_kind.Statement.{statement}
+use Rattle.scopeck.proofs.statements.check_kind.Tie as tie
+use Rattle.scopeck.proofs.statements.check_kind.Reads as reads
+use Rattle.scopeck.proofs.statements.check_kind.Lts as lts
+use Rattle.scopeck.proofs.statements.check_declaration.Reads as check-declaration-reads
 use Rattle.scopeck.proofs.kinds.scope_check_assert.Reads as scope-check-assert-reads
 use Rattle.scopeck.proofs.kinds.scope_check_dv.Reads as scope-check-dv-reads
 use Rattle.scopeck.proofs.kinds.scope_check_essential.Reads as scope-check-essential-reads

@@ -1,9 +1,9 @@
 use borrow.Author.Tests.{eq-eqb, ne-eqb}
 use borrow.Author.Needs.{needs}
-use Rattle.scopeck.proofs.fold.mark_accepted.Statement.{statement}
-use Rattle.scopeck.proofs.fold.mark_accepted.Tie as tie
-use Rattle.scopeck.proofs.fold.mark_accepted.Reads as reads
-use Rattle.scopeck.proofs.fold.mark_accepted.Lts as lts
+use Rattle.scopeck.proofs.statements.mark_accepted.Statement.{statement}
+use Rattle.scopeck.proofs.statements.mark_accepted.Tie as tie
+use Rattle.scopeck.proofs.statements.mark_accepted.Reads as reads
+use Rattle.scopeck.proofs.statements.mark_accepted.Lts as lts
 use Rattle.slots.proofs.cells.put_statement.Reads as put-statement-reads
 
 put-statement-requires : tie.Need-put-statement-requires

@@ -1,11 +1,11 @@
 use Rattle.scopeck.proofs.Whole.{names-fit, some-blank, checks-all}
 use borrow.Author.Needs.{needs}
-use Rattle.scopeck.proofs.fold.scope_check_all.Statement.{statement}
-use Rattle.scopeck.proofs.fold.scope_check_all.Tie as tie
-use Rattle.scopeck.proofs.fold.scope_check_all.Reads as reads
-use Rattle.scopeck.proofs.fold.scope_check_all.Lts as lts
-use Rattle.scopeck.proofs.fold.check_rows.Reads as check-rows-reads
-use Rattle.scopeck.proofs.fold.forget_all.Reads as forget-all-reads
+use Rattle.scopeck.proofs.statements.scope_check_all.Statement.{statement}
+use Rattle.scopeck.proofs.statements.scope_check_all.Tie as tie
+use Rattle.scopeck.proofs.statements.scope_check_all.Reads as reads
+use Rattle.scopeck.proofs.statements.scope_check_all.Lts as lts
+use Rattle.scopeck.proofs.statements.check_rows.Reads as check-rows-reads
+use Rattle.scopeck.proofs.statements.forget_all.Reads as forget-all-reads
 
 forget-all-requires : tie.Need-forget-all-requires
 forget-all-requires c κs = names-fit (c .before .before .before .before .pre)

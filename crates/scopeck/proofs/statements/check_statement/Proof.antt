@@ -2,12 +2,12 @@ use native.Mathlib.Omega.{arith}
 use Rattle.slots.proofs.Kept.{room-kept}
 use Rattle.scopeck.proofs.Whole.{before-room, deep-ess, deep-dis, ready-of, steps-of}
 use borrow.Author.Needs.{needs}
-use Rattle.scopeck.proofs.fold.check_statement.Statement.{statement}
-use Rattle.scopeck.proofs.fold.check_statement.Tie as tie
-use Rattle.scopeck.proofs.fold.check_statement.Reads as reads
-use Rattle.scopeck.proofs.fold.check_statement.Lts as lts
-use Rattle.scopeck.proofs.fold.check_kind.Reads as check-kind-reads
-use Rattle.scopeck.proofs.fold.mark_accepted.Reads as mark-accepted-reads
+use Rattle.scopeck.proofs.statements.check_statement.Statement.{statement}
+use Rattle.scopeck.proofs.statements.check_statement.Tie as tie
+use Rattle.scopeck.proofs.statements.check_statement.Reads as reads
+use Rattle.scopeck.proofs.statements.check_statement.Lts as lts
+use Rattle.scopeck.proofs.statements.check_kind.Reads as check-kind-reads
+use Rattle.scopeck.proofs.statements.mark_accepted.Reads as mark-accepted-reads
 use Rattle.slots.proofs.cells.of_statement.Reads as of-statement-reads
 use Rattle.slots.proofs.stack.still_active.Reads as still-active-reads
 

@@ -7,10 +7,10 @@ use Rattle.slots.proofs.Kept.{room-kept}
 use Rattle.scopeck.specs.Fold.{Forgotten}
 use Rattle.scopeck.proofs.Whole.{forgotten-none, forgotten-more}
 use borrow.Author.Needs.{needs}
-use Rattle.scopeck.proofs.fold.forget_all.Statement.{statement}
-use Rattle.scopeck.proofs.fold.forget_all.Tie as tie
-use Rattle.scopeck.proofs.fold.forget_all.Reads as reads
-use Rattle.scopeck.proofs.fold.forget_all.Lts as lts
+use Rattle.scopeck.proofs.statements.forget_all.Statement.{statement}
+use Rattle.scopeck.proofs.statements.forget_all.Tie as tie
+use Rattle.scopeck.proofs.statements.forget_all.Reads as reads
+use Rattle.scopeck.proofs.statements.forget_all.Lts as lts
 use Rattle.slots.proofs.cells.put_symbol.Reads as put-symbol-reads
 
 abbrev Inv-loop : tie.InvT-loop

@@ -2,11 +2,11 @@ use native.Mathlib.Omega.{arith}
 use Prim.Native.Nat.{_-_}
 use Rattle.scopeck.proofs.Whole.{InvRows, rows-start, some-before, rows-step, rows-end}
 use borrow.Author.Needs.{needs}
-use Rattle.scopeck.proofs.fold.check_rows.Statement.{statement}
-use Rattle.scopeck.proofs.fold.check_rows.Tie as tie
-use Rattle.scopeck.proofs.fold.check_rows.Reads as reads
-use Rattle.scopeck.proofs.fold.check_rows.Lts as lts
-use Rattle.scopeck.proofs.fold.check_statement.Reads as check-statement-reads
+use Rattle.scopeck.proofs.statements.check_rows.Statement.{statement}
+use Rattle.scopeck.proofs.statements.check_rows.Tie as tie
+use Rattle.scopeck.proofs.statements.check_rows.Reads as reads
+use Rattle.scopeck.proofs.statements.check_rows.Lts as lts
+use Rattle.scopeck.proofs.statements.check_statement.Reads as check-statement-reads
 
 abbrev Inv-loop : tie.InvT-loop
 Inv-loop text work₀ n diags₀ rows st₀ row₀ work diags st row = InvRows text work₀ work diags₀ diags n rows st row
