@@ -1,4 +1,5 @@
 // What a statement's row says, whether it owns its label, and the state after it.
+// `lookup` has an owner of its own: the first bearer of a label, where ours is the statement in hand or nothing.
 use crate::Owner;
 use crate::Row;
 use crate::Scope;
