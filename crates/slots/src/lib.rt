@@ -1,6 +1,5 @@
 // Words against state: one slot for each name, the stacks of active `$e` and `$d`, and the marks of a `$d`.
-// Functions promise equations over the words, and laws say what the words stand for; `check_math_symbol` promises what the
-// definitions say.
+// Functions promise equations over the words, and laws say what these stand for; `check_math_symbol` promises the definition.
 use paper::Atom;
 use paper::TokenIndex;
 use paper::TokenOffset;
