@@ -2,7 +2,7 @@
 // `$d` names with it are marked in the work area. The marks are taken away in the end.
 use slots::cells;
 ghost use mathlib.Core.Path.{_≡_};
-ghost use Prim.Native.Nat.{_+_, _-_, _<_, _≤_};
+ghost use Prim.Native.Nat.{_+_, _-_, _<_};
 ghost use Rattle.disjoint.specs.Found.{has, rising};
 ghost use Rattle.disjoint.specs.Words.{number-at, numbers, TokenNumbered, CanWalk};
 ghost use Rattle.disjoint.specs.Marks.{Marks, CanMark, MarksOne, CanMarkRow, above, CanCountOf, CountsOf, CanCountAll, CountsAll, CanClear, ClearsMarks, PairCount};

@@ -7,7 +7,6 @@ use native.Mathlib.Omega.{arith}
 use native.Mathlib.Numerals.{add-one}
 use lib.ListN.{length, length-append}
 use Rattle.paper.specs.Base.{gather, table}
-use Rattle.paper.specs.State.{Symbol}
 use Rattle.paper.specs.Expressions.{constant-in}
 use Rattle.paper.proofs.Lists.{gather-append}
 use Rattle.paper.proofs.Gather.{gather-one}

@@ -2,26 +2,26 @@
 -- Each mandatory variable has its one `$f` among the rows.
 use mathlib.Core.Path.{_≡_, refl, sym, ap, _∙_}
 use mathlib.Core.Bool.{Bool, true, false}
-use mathlib.Core.List.{List, [], _∷_, _++_, map}
-use Prim.Native.Nat.{ℕ, zero, suc, _+_, _-_, _*_, _<_, _≤_}
+use mathlib.Core.List.{List, [], _∷_, map}
+use Prim.Native.Nat.{ℕ, zero, suc, _+_, _<_}
 use native.Mathlib.Omega.{arith}
 use lib.Dec.{eqb}
 use lib.ListN.{length, getD, length-append, List·getD-append}
 use borrow.Author.Tests.{eq-eqb, eqb-true}
-use Rattle.paper.specs.Base.{choose, and, or, sameb, any, keep, gather}
+use Rattle.paper.specs.Base.{and, or, sameb, any, keep}
 use Rattle.paper.specs.Statements.{Kind, $c, $v, $d, $f, $e, $a, $p, Statement}
-use Rattle.paper.specs.State.{Hyp, float, essential}
+use Rattle.paper.specs.State.{float, essential}
 use Rattle.paper.specs.Variables.{member, index}
-use Rattle.paper.specs.Expressions.{Hypothesis, hypothesis, hypotheses, pooled}
+use Rattle.paper.specs.Expressions.{hypothesis, hypotheses, pooled}
 use Rattle.paper.specs.Checks.{token}
 use Rattle.paper.proofs.Tests.{split, clash, same-refl, same-eq, eqb-ne}
-use Rattle.paper.proofs.Names.{same-sym, index-at, index-lt, member-at, Grown, grown-length, grown-index, Distinct}
+use Rattle.paper.proofs.Names.{index-at, index-lt, member-at, Grown, grown-length, grown-index, Distinct}
 use Rattle.area.specs.Cells.{statement-cell, word}
 use Rattle.reader.specs.Rows.{stmt}
 use Rattle.sight.specs.Static.{static, row-hyp, stack}
 use Rattle.history.specs.Accepted as history
 use Rattle.history.proofs.Rows as by-kind
-use Rattle.forms.specs.HypRows.{among, floating, is-float, is-essential, variable-at, FloatRow, HypRows, HypState}
+use Rattle.forms.specs.HypRows.{among, floating, is-float, is-essential, variable-at, HypState}
 use Rattle.forms.proofs.Order.{Up, rising, among-above}
 
 -- ---- the hypothesis of a row, by its kind

@@ -1,9 +1,9 @@
 -- Fragments and rump of a formula: one symbol more at its end, how many they are, and numbers in a longer list of variables.
 -- Over the definitions alone.
 use mathlib.Core.Path.{_≡_, refl, sym, ap, _∙_}
-use mathlib.Core.Bool.{Bool, true, false}
+use mathlib.Core.Bool.{true, false}
 use mathlib.Core.List.{List, [], _∷_, _++_, map, append-nil, append-assoc}
-use Prim.Native.Nat.{ℕ, zero, suc, _+_, _-_, _<_, _≤_}
+use Prim.Native.Nat.{ℕ, _+_, _-_, _<_, _≤_}
 use native.Mathlib.Nat.{add-zero}
 use native.Mathlib.Omega.{arith}
 use lib.Dec.{eqb}
@@ -13,7 +13,7 @@ use Rattle.paper.specs.Base.{choose, sameb, any, gather}
 use Rattle.paper.specs.Statements.{Statement, none-end}
 use Rattle.paper.specs.State.{Symbol, con, var}
 use Rattle.paper.specs.Variables.{member, index, variable-in, variables-of}
-use Rattle.paper.specs.Expressions.{constant-in, Fragment, fragment-at, begun, reached, fragments, rump}
+use Rattle.paper.specs.Expressions.{constant-in, fragment-at, begun, reached, fragments, rump}
 use Rattle.paper.specs.Checks.{token, no-token}
 use Rattle.paper.proofs.Tests.{split, same-refl}
 use Rattle.paper.proofs.Names.{Grown, grown-index, member-left, any-append}

@@ -2,18 +2,15 @@
 -- In the words alone, without the text.
 use mathlib.Core.Path.{_≡_, refl, sym, ap, _∙_}
 use mathlib.Core.Logic.{_≢_}
-use mathlib.Core.Bool.{Bool, true, false}
-use mathlib.Core.List.{List, [], _∷_, _++_}
-use Prim.Native.Nat.{ℕ, zero, suc, _+_, _-_, _*_, _<_, _≤_}
+use mathlib.Core.Bool.{true, false}
+use mathlib.Core.List.{List, _++_}
+use Prim.Native.Nat.{ℕ, suc, _+_, _-_, _*_, _<_, _≤_}
 use native.Mathlib.Omega.{arith}
 use native.Mathlib.Nat.{add-zero}
-use native.Mathlib.Numerals.{add-one}
 use lib.Dec.{eqb}
-use lib.ListN.{length}
 use borrow.Author.Tests.{eq-eqb, ne-eqb}
 use Rattle.paper.specs.Base.{choose, gather}
 use Rattle.paper.specs.Statements.{none-end}
-use Rattle.paper.specs.Expressions.{Fragment}
 use Rattle.paper.specs.Records.{u16, u32, fragment-bytes}
 use Rattle.paper.proofs.Tests.{split}
 use Rattle.paper.proofs.Lists.{gather-append}
@@ -23,7 +20,7 @@ use Rattle.stream.specs.Wrote.{Wrote}
 use Rattle.stream.proofs.Wrote.{wrote-none, wrote-then, wrote-as}
 use Rattle.sight.specs.Sums.{sum}
 use Rattle.forms.specs.declared.expression.Reached.{Reached}
-use Rattle.forms.specs.Words.{atom-at, count-of, constant-size, sizes-to, variable-size, variables-to, starts, piece-by, pieces, SomeName, SomeRow, RowNumbers}
+use Rattle.forms.specs.Words.{atom-at, count-of, constant-size, sizes-to, variable-size, variables-to, starts, piece-by, pieces, SomeRow, RowNumbers}
 use Rattle.forms.specs.Spelling.{CanPutSymbol, PutSymbol, spelling}
 use Rattle.forms.proofs.Constants.{sum-from, sizes-can}
 

@@ -1,16 +1,15 @@
 -- One name: its bytes as a part of the text, and what is written of it.
 -- For the writers of a name and of a constant.
-use mathlib.Core.Path.{_≡_, refl, sym, ap, _∙_}
+use mathlib.Core.Path.{_≡_, sym, ap, _∙_}
 use mathlib.Core.Logic.{_≢_}
-use mathlib.Core.List.{List, [], _∷_, _++_}
-use Prim.Native.Nat.{ℕ, _+_, _-_, _<_, _≤_}
+use mathlib.Core.List.{List}
+use Prim.Native.Nat.{ℕ, _+_, _-_, _≤_}
 use native.Mathlib.Omega.{arith}
 use lib.Dec.{eqb}
 use lib.ListN.{length, take, drop, length-take, length-drop}
 use borrow.Author.Tests.{eq-eqb, ne-eqb}
-use Rattle.paper.specs.Base.{choose}
 use Rattle.paper.specs.Statements.{none-end}
-use Rattle.paper.specs.State.{Symbol, con, var}
+use Rattle.paper.specs.State.{con, var}
 use Rattle.paper.specs.Expressions.{raised, constant-in}
 use Rattle.paper.specs.Records.{string}
 use Rattle.paper.proofs.Tests.{split}

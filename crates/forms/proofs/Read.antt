@@ -1,19 +1,16 @@
 -- What the words say of names and rows is what the statements say: names, atoms, numbers, symbols, the formula of a row.
 -- For every statement list and every list of variables that the words stand for.
-use mathlib.Core.Path.{_≡_, refl, sym, ap, _∙_}
-use mathlib.Core.Logic.{_≢_}
+use mathlib.Core.Path.{_≡_, sym, ap, _∙_}
 use mathlib.Core.Bool.{Bool, true, false}
-use mathlib.Core.List.{List, [], _∷_, _++_, map}
-use Prim.Native.Nat.{ℕ, zero, suc, _+_, _-_, _*_, _<_, _≤_}
+use mathlib.Core.List.{List}
+use Prim.Native.Nat.{ℕ, _+_, _-_, _<_, _≤_}
 use native.Mathlib.Omega.{arith}
 use lib.Dec.{eqb}
-use lib.ListN.{length, getD, take, drop, length-drop}
+use lib.ListN.{length, getD, drop, length-drop}
 use lib.Seq.{getD-drop, take-length}
-use borrow.Author.Tests.{eq-eqb, ne-eqb}
-use Rattle.paper.specs.Base.{choose, gather, table}
-use Rattle.paper.specs.Tokens.{Token}
+use borrow.Author.Tests.{ne-eqb}
+use Rattle.paper.specs.Base.{gather}
 use Rattle.paper.specs.Statements.{Statement, none-end}
-use Rattle.paper.specs.State.{Symbol, con, var, Formula}
 use Rattle.paper.specs.Variables.{member, index}
 use Rattle.paper.specs.Expressions.{constant-in, pool-of}
 use Rattle.paper.specs.Checks.{token, no-token}
@@ -24,14 +21,13 @@ use Rattle.paper.proofs.Made.{table-same, table-map}
 use Rattle.area.specs.Cells.{statement-cell, symbol-cell, word}
 use Rattle.stream.proofs.Raised.{low-last}
 use Rattle.reader.specs.Rows.{no-statement, stmt, before}
-use Rattle.facts.specs.Facts.{Facts}
 use Rattle.nameck.specs.Atoms.{atoms, atom-of, name-of}
 use Rattle.nameck.proofs.Atoms.{token-in, atom-below, name-of-atom}
-use Rattle.sight.specs.Sums.{sum, one}
+use Rattle.sight.specs.Sums.{one}
 use Rattle.sight.specs.Static.{constant-name, static-symbol, static}
-use Rattle.sight.specs.Numbered.{number-word, Holds}
+use Rattle.sight.specs.Numbered.{number-word}
 use Rattle.sight.proofs.Sums.{sum-few}
-use Rattle.forms.specs.Words.{name-bytes, names-of, atom-at, word-symbol, body-of, count-of, constants-to, constants-of, NameWords, Low, RowWords}
+use Rattle.forms.specs.Words.{name-bytes, atom-at, word-symbol, body-of, count-of, constants-to, constants-of, NameWords, Low, RowWords}
 use Rattle.forms.specs.Ready.{Ready}
 
 one-few : (b : Bool) → one b ≤ 1

@@ -1,20 +1,19 @@
 -- The expression of a row: what the words spell is what the definition says of its formula.
 -- For every statement list and every variables that the words stand for.
 use mathlib.Core.Path.{_≡_, refl, sym, ap, _∙_}
-use mathlib.Core.Logic.{_≢_}
-use mathlib.Core.Bool.{Bool, true, false}
-use mathlib.Core.List.{List, [], _∷_, _++_, map}
+use mathlib.Core.Bool.{true, false}
+use mathlib.Core.List.{List, _++_}
 use Prim.Native.Nat.{ℕ, zero, suc, _+_, _-_, _*_, _<_, _≤_}
 use native.Mathlib.Nat.{add-zero}
 use native.Mathlib.Omega.{arith}
 use lib.Dec.{eqb}
-use lib.ListN.{length, getD}
+use lib.ListN.{length}
 use Rattle.paper.specs.Base.{choose, gather, table}
 use Rattle.paper.specs.Statements.{Statement, none-end}
-use Rattle.paper.specs.State.{Symbol, con, var, Formula}
-use Rattle.paper.specs.Variables.{member, index, variable-in, variables-of}
-use Rattle.paper.specs.Expressions.{constant-in, pool-of, Fragment, fragments, rump, expression}
-use Rattle.paper.specs.Records.{u32, string, fragment-bytes, expression-bytes}
+use Rattle.paper.specs.State.{Symbol}
+use Rattle.paper.specs.Variables.{index, variable-in, variables-of}
+use Rattle.paper.specs.Expressions.{constant-in, pool-of, fragments, rump, expression}
+use Rattle.paper.specs.Records.{u32, string, expression-bytes}
 use Rattle.paper.specs.Checks.{token}
 use Rattle.paper.proofs.Tests.{split, clash}
 use Rattle.paper.proofs.Names.{grown-member}
@@ -22,12 +21,10 @@ use Rattle.area.specs.Cells.{statement-cell, symbol-cell, math-cell, word}
 use Rattle.stream.specs.Wrote.{Wrote}
 use Rattle.stream.proofs.Wrote.{wrote-then, wrote-as}
 use Rattle.reader.specs.Rows.{stmt}
-use Rattle.sight.specs.Sums.{sum}
 use Rattle.sight.specs.Static.{constant-name, static}
-use Rattle.sight.specs.Numbered.{number-word}
 use Rattle.sight.proofs.Sums.{sum-same}
-use Rattle.forms.specs.Words.{name-bytes, atom-at, word-symbol, body-of, count-of, constants-of, sizes-to, variable-size, variables-to, starts, piece-by, pieces, NameWords, RowWords, RowNumbers}
-use Rattle.forms.specs.Ready.{Ready, Spelled}
+use Rattle.forms.specs.Words.{name-bytes, atom-at, word-symbol, body-of, count-of, sizes-to, variable-size, variables-to, starts, piece-by, pieces, NameWords, RowWords, RowNumbers}
+use Rattle.forms.specs.Ready.{Spelled}
 use Rattle.forms.specs.Spelling.{spelling, PutExpression}
 use Rattle.forms.proofs.Read.{name-at, number-at, number-constant, number-variable, count-is, body-is, constants-are}
 use Rattle.forms.proofs.Constants.{atom-read, token-words, sum-gather, sizes-at, sizes-are}

@@ -1,8 +1,8 @@
 -- The walk over the variables of a frame that writes their names.
 -- By the variables done so far.
-use mathlib.Core.Path.{_≡_, refl, sym, ap, _∙_}
-use mathlib.Core.List.{List, [], _∷_, _++_}
-use Prim.Native.Nat.{ℕ, zero, suc, _+_, _*_, _<_, _≤_}
+use mathlib.Core.Path.{_≡_, sym, ap, _∙_}
+use mathlib.Core.List.{List, [], _++_}
+use Prim.Native.Nat.{ℕ, _+_, _*_, _<_, _≤_}
 use native.Mathlib.Omega.{arith}
 use lib.ListN.{length, getD}
 use Rattle.paper.specs.Base.{gather, table}
@@ -12,7 +12,7 @@ use Rattle.paper.proofs.Made.{gather-table, table-same, table-list}
 use Rattle.area.specs.Cells.{bucket-cell, word}
 use Rattle.stream.specs.Wrote.{Wrote}
 use Rattle.stream.proofs.Wrote.{wrote-none, wrote-then, wrote-as}
-use Rattle.nameck.specs.Atoms.{atoms, atom-of, name-of}
+use Rattle.nameck.specs.Atoms.{atoms, name-of}
 use Rattle.nameck.proofs.Atoms.{atom-below, name-of-atom}
 use Rattle.forms.specs.Words.{name-bytes, names-of, NameWords, VarWords}
 use Rattle.forms.specs.Ready.{Ready}

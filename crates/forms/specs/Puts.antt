@@ -1,7 +1,7 @@
 -- What the writers of names and of the pool promise, for every statement list that the words stand for.
 -- Each also bounds the place that it answers.
 use mathlib.Core.Path.{_≡_}
-use mathlib.Core.List.{List, [], _∷_, _++_}
+use mathlib.Core.List.{List, _++_}
 use Prim.Native.Nat.{ℕ, _+_, _*_, _<_, _≤_}
 use lib.ListN.{length}
 use Rattle.paper.specs.Base.{gather}

@@ -1,9 +1,9 @@
 -- What the words stand for while a frame is written: a text, its statements, and the variables of the frame.
 -- `m` are the mandatory variables, the first of `vs`.
 use mathlib.Core.Path.{_≡_}
-use mathlib.Core.Bool.{Bool, true}
+use mathlib.Core.Bool.{true}
 use mathlib.Core.List.{List}
-use Prim.Native.Nat.{ℕ, _<_, _≤_}
+use Prim.Native.Nat.{ℕ, _<_}
 use lib.ListN.{length}
 use Rattle.paper.specs.Statements.{Statement}
 use Rattle.paper.specs.Variables.{member, variables-of}

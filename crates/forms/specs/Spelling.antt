@@ -2,12 +2,12 @@
 -- Each also bounds the place that it answers.
 use mathlib.Core.Path.{_≡_}
 use mathlib.Core.Logic.{_≢_}
-use mathlib.Core.List.{List, [], _∷_, _++_}
+use mathlib.Core.List.{List, _++_}
 use Prim.Native.Nat.{ℕ, _+_, _-_, _*_, _<_, _≤_}
 use lib.Dec.{eqb}
 use Rattle.paper.specs.Base.{choose, gather}
 use Rattle.paper.specs.Statements.{Statement, none-end}
-use Rattle.paper.specs.Expressions.{Fragment, expression}
+use Rattle.paper.specs.Expressions.{expression}
 use Rattle.paper.specs.Records.{u32, fragment-bytes, expression-bytes}
 use Rattle.area.specs.Cells.{symbol-cell, word}
 use Rattle.stream.specs.Wrote.{Wrote}

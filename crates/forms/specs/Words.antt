@@ -1,8 +1,6 @@
 -- What the words say of a frame's parts: the bytes of a name, the symbols and the pool of a row, its fragments.
 -- `t` is the text, `w` the words, `n` is N + 1; a row is a statement's.
-use mathlib.Core.Path.{_≡_}
 use mathlib.Core.Logic.{_≢_}
-use mathlib.Core.Bool.{Bool, true, false}
 use mathlib.Core.List.{List, [], _∷_, _++_}
 use Prim.Native.Nat.{ℕ, zero, suc, _+_, _-_, _*_, _<_, _≤_}
 use lib.Dec.{eqb}

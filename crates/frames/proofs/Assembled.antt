@@ -1,17 +1,15 @@
 -- From the words between statements to those while the frame is written: numbered variables, hypotheses, `$d`.
 -- For all that the words stand for.
 use mathlib.Core.Path.{_≡_, refl, sym, ap, _∙_}
-use mathlib.Core.Bool.{Bool, true, false}
-use mathlib.Core.List.{List, [], _∷_, _++_, map}
-use Prim.Native.Nat.{ℕ, zero, suc, _+_, _*_, _<_, _≤_}
+use mathlib.Core.Bool.{true, false}
+use mathlib.Core.List.{List, [], _∷_, map}
+use Prim.Native.Nat.{ℕ, zero, suc, _*_, _<_, _≤_}
 use native.Mathlib.Omega.{arith}
 use lib.Dec.{ltb}
 use lib.ListN.{length, getD, drop}
-use Rattle.paper.specs.Base.{sameb, keep, gather}
+use Rattle.paper.specs.Base.{sameb, gather}
 use Rattle.paper.specs.Statements.{Statement}
-use Rattle.paper.specs.Checks.{token}
 use Rattle.paper.specs.Variables.{member, index, sights, variables-of, mandatory}
-use Rattle.paper.specs.Pairs.{in-order}
 use Rattle.paper.specs.Frames.{frame-of}
 use Rattle.paper.specs.Answer.{crowded}
 use Rattle.paper.proofs.Tests.{split}
@@ -21,16 +19,15 @@ use Rattle.area.specs.Cells.{statement-cell, symbol-cell, word}
 use Rattle.reader.specs.Rows.{stmt}
 use Rattle.nameck.specs.Atoms.{atoms, atom-of}
 use Rattle.nameck.proofs.Kept.{named-kept}
-use Rattle.sight.specs.Static.{constant-name, static, row-hyp, row-disjoint, stack, rows-state}
-use Rattle.sight.specs.Numbered.{Numbered, Renumbered, scanned, scanned-rows, Holds, SomeHold}
+use Rattle.sight.specs.Static.{constant-name, static, row-disjoint, stack}
+use Rattle.sight.specs.Numbered.{Renumbered, scanned, scanned-rows, Holds}
 use Rattle.sight.proofs.Walks.{kept-renumbered}
 use Rattle.sight.proofs.Stacks.{stack-length}
-use Rattle.forms.specs.Ready.{Ready}
 use Rattle.forms.proofs.StackRows.{among-keep}
-use Rattle.forms.specs.HypRows.{among, is-essential, FloatRow, HypRows, HypState}
-use Rattle.disjoint.specs.Written.{names-at, Names, Active}
-use Rattle.frames.specs.Front.{record-kind, OfAssertion}
-use Rattle.frames.specs.InHand.{InHand, Whole}
+use Rattle.forms.specs.HypRows.{among, is-essential, HypRows}
+use Rattle.disjoint.specs.Written.{names-at, Names}
+use Rattle.frames.specs.Front.{OfAssertion}
+use Rattle.frames.specs.InHand.{Whole}
 use Rattle.frames.specs.Assert.{frame-at, needed, Apart, Framing}
 use Rattle.frames.proofs.Variables.{mandatory-scanned, optional-scanned}
 use Rattle.frames.proofs.Scanned.{scanned-grown, rows-grown, static-member, rows-member, names-member}

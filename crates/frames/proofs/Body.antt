@@ -1,10 +1,10 @@
 -- The parts, one after the other, are the definition's record of the frame.
 -- Assumes nothing.
-use mathlib.Core.Path.{_≡_, refl, sym, ap, _∙_}
-use mathlib.Core.List.{List, [], _∷_, _++_, map, append-assoc}
+use mathlib.Core.Path.{_≡_, sym, ap, _∙_}
+use mathlib.Core.List.{List, _++_, map, append-assoc}
 use Prim.Native.Nat.{ℕ, _+_}
 use native.Mathlib.Omega.{arith}
-use lib.ListN.{length, length-append}
+use lib.ListN.{length}
 use Rattle.paper.specs.Base.{gather}
 use Rattle.paper.specs.Statements.{Statement}
 use Rattle.paper.specs.Variables.{sights, mandatory}
@@ -14,7 +14,7 @@ use Rattle.paper.specs.Frames.{frame-of}
 use Rattle.paper.specs.Records.{le, u16, u32, string, framed, expression-bytes, hypothesis-bytes, pair-bytes, row-bytes, full-payload, frame-record}
 use Rattle.reader.specs.Rows.{stmt}
 use Rattle.sight.specs.Static.{static, row-hyp, row-disjoint, rows-state}
-use Rattle.disjoint.specs.Written.{names-at, disjoint-bytes}
+use Rattle.disjoint.specs.Written.{names-at}
 use Rattle.frames.specs.Front.{record-kind, front}
 use Rattle.frames.specs.InHand.{head, middle, body}
 

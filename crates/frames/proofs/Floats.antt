@@ -1,12 +1,12 @@
 -- What the words say of the `$f` in a row, and its stub frame.
 -- For every statement list that the words stand for.
-use mathlib.Core.Path.{_≡_, refl, sym, ap, _∙_}
-use mathlib.Core.Bool.{Bool, true}
+use mathlib.Core.Path.{_≡_, ap, _∙_}
+use mathlib.Core.Bool.{true}
 use mathlib.Core.List.{List}
 use Prim.Native.Nat.{ℕ, _+_, _-_, _*_, _<_, _≤_}
 use native.Mathlib.Omega.{arith}
-use lib.ListN.{length, getD, take, drop, length-take, length-drop}
-use Rattle.paper.specs.Statements.{$f, labelled, Statement}
+use lib.ListN.{length, getD, drop, length-take, length-drop}
+use Rattle.paper.specs.Statements.{labelled, Statement}
 use Rattle.paper.specs.Checks.{token}
 use Rattle.paper.specs.Variables.{member}
 use Rattle.paper.specs.Frames.{stub}
@@ -17,7 +17,7 @@ use Rattle.stream.proofs.Raised.{low-last}
 use Rattle.stream.proofs.Wrote.{wrote-as}
 use Rattle.reader.specs.Rows.{stmt, before}
 use Rattle.facts.specs.Facts.{Facts, Shaped}
-use Rattle.nameck.specs.Atoms.{atoms, atom-of, name-of}
+use Rattle.nameck.specs.Atoms.{atoms, atom-of}
 use Rattle.nameck.specs.Named.{Named}
 use Rattle.nameck.proofs.Atoms.{label-in, token-in, atom-below, name-of-atom}
 use Rattle.nameck.proofs.Kept.{math-row}

@@ -1,8 +1,8 @@
 -- What the words say of the assertion in a row, and the front of its record.
 -- For every statement list that the words stand for.
-use mathlib.Core.Path.{_≡_, refl, sym, ap, _∙_}
-use mathlib.Core.Bool.{Bool, true}
-use mathlib.Core.List.{List, _++_}
+use mathlib.Core.Path.{_≡_, refl, ap, _∙_}
+use mathlib.Core.Bool.{true}
+use mathlib.Core.List.{List}
 use Prim.Native.Nat.{ℕ, _+_, _-_, _*_, _<_, _≤_}
 use native.Mathlib.Omega.{arith}
 use lib.ListN.{length}
@@ -13,7 +13,7 @@ use Rattle.stream.specs.Wrote.{Wrote}
 use Rattle.stream.proofs.Wrote.{wrote-then, wrote-as}
 use Rattle.reader.specs.Rows.{stmt, kind-number}
 use Rattle.nameck.proofs.Atoms.{label-in}
-use Rattle.forms.specs.Words.{name-bytes, NameWords}
+use Rattle.forms.specs.Words.{name-bytes}
 use Rattle.frames.specs.Front.{record-kind, front, OfAssertion, CanFront, Fronts}
 use Rattle.frames.proofs.Floats.{Spelt, spelt}
 

@@ -1,36 +1,33 @@
 -- The parts of a frame's record, one writer after the other.
 -- For all that the words stand for.
-use mathlib.Core.Path.{_≡_, refl, sym, ap, _∙_}
-use mathlib.Core.Bool.{Bool, true}
-use mathlib.Core.List.{List, [], _∷_, _++_, map}
-use Prim.Native.Nat.{ℕ, _+_, _-_, _*_, _<_, _≤_, _^_}
+use mathlib.Core.Path.{_≡_, sym, ap, _∙_}
+use mathlib.Core.List.{List, map}
+use Prim.Native.Nat.{ℕ, _+_, _-_, _<_, _≤_, _^_}
 use native.Mathlib.Omega.{arith}
 use lib.ListN.{length, take}
 use lib.Seq.{take-append-seam}
 use Rattle.paper.specs.Base.{gather}
 use Rattle.paper.specs.Statements.{Statement}
-use Rattle.paper.specs.Variables.{member}
-use Rattle.paper.specs.Expressions.{pooled, pool-of, hypotheses, expression}
-use Rattle.paper.specs.Records.{u32, string, hypothesis-bytes, expression-bytes}
+use Rattle.paper.specs.Expressions.{pooled}
+use Rattle.paper.specs.Records.{u32}
 use Rattle.paper.proofs.Names.{Grown}
 use Rattle.area.specs.Cells.{statement-cell, word}
 use Rattle.stream.specs.Wrote.{Wrote}
 use Rattle.stream.proofs.Wrote.{wrote-then, wrote-as}
 use Rattle.stream.proofs.Front.{wrote-front}
 use Rattle.reader.specs.Rows.{stmt}
-use Rattle.sight.specs.Static.{static, row-hyp, stack}
+use Rattle.sight.specs.Static.{row-hyp, stack}
 use Rattle.forms.specs.Words.{RowWords, RowNumbers, VarWords, Before, StackWords, SomeStack}
 use Rattle.forms.specs.Ready.{Spelled}
-use Rattle.forms.specs.Puts.{row-pool, PutNames, PutPool, StackLength}
+use Rattle.forms.specs.Puts.{PutNames, PutPool, StackLength}
 use Rattle.forms.specs.Spelling.{PutExpression}
 use Rattle.forms.specs.HypPuts.{HypWords, PutHyps}
-use Rattle.forms.specs.HypRows.{HypState}
 use Rattle.forms.proofs.Read.{row-words}
 use Rattle.forms.proofs.Variables.{var-words}
 use Rattle.forms.proofs.Spelled.{row-numbers}
 use Rattle.forms.proofs.Essentials.{stack-sizes, stack-is}
 use Rattle.forms.proofs.StackRows.{essential-inside, stack-words, stack-before, hyp-words, pool-is}
-use Rattle.disjoint.specs.Written.{names-at, disjoint-bytes, Active, CanPutDisjoint, PutsDisjoint}
+use Rattle.disjoint.specs.Written.{CanPutDisjoint, PutsDisjoint}
 use Rattle.frames.specs.Front.{front, CanFront, Fronts}
 use Rattle.frames.specs.InHand.{head, middle, body, InHand, Whole, SomeInHand, SomeWhole, PutHead, PutMiddle, PutFrame}
 

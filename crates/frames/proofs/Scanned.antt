@@ -1,21 +1,21 @@
 -- What the walks over names leave: the names that were there, and every variable of the rows walked.
 -- Assumes nothing.
-use mathlib.Core.Path.{_≡_, refl, sym, ap, _∙_}
-use mathlib.Core.Bool.{Bool, true, false}
-use mathlib.Core.List.{List, [], _∷_, _++_, map}
-use Prim.Native.Nat.{ℕ, zero, suc, _+_, _<_, _≤_}
+use mathlib.Core.Path.{_≡_, sym}
+use mathlib.Core.Bool.{true, false}
+use mathlib.Core.List.{List, [], _∷_}
+use Prim.Native.Nat.{ℕ, zero, suc, _<_}
 use native.Mathlib.Omega.{arith}
 use lib.Dec.{eqb}
 use lib.ListN.{length, getD, drop}
 use borrow.Author.Tests.{eqb-true}
-use Rattle.paper.specs.Base.{choose, sameb, any}
+use Rattle.paper.specs.Base.{any}
 use Rattle.paper.specs.Tokens.{Token}
 use Rattle.paper.specs.Statements.{Statement}
 use Rattle.paper.specs.Checks.{no-token}
-use Rattle.paper.specs.Variables.{member, see, sights, variables-of}
+use Rattle.paper.specs.Variables.{member, variables-of}
 use Rattle.paper.proofs.Tests.{split, clash}
 use Rattle.paper.proofs.Names.{Grown, grown-none, grown-then, grown-member, see-grown, see-self, sights-member}
-use Rattle.paper.proofs.Alls.{All, all-none, all-more}
+use Rattle.paper.proofs.Alls.{All, all-more}
 use Rattle.reader.specs.Rows.{stmt}
 use Rattle.sight.specs.Static.{constant-name, static}
 use Rattle.sight.specs.Numbered.{scan-name, scanned, scanned-rows}

@@ -1,29 +1,24 @@
 -- The stages of an assertion's frame: three walks number its variables, the record is written, the numbers are taken away.
 -- For all that the words stand for.
-use mathlib.Core.Path.{_≡_, refl, sym, ap, _∙_}
-use mathlib.Core.Bool.{Bool, true, false}
-use mathlib.Core.List.{List, [], _∷_, _++_, map}
-use Prim.Native.Nat.{ℕ, _+_, _*_, _<_, _≤_, zero, suc}
+use mathlib.Core.Path.{_≡_, refl, sym, _∙_}
+use mathlib.Core.List.{List, [], _++_, map}
+use Prim.Native.Nat.{ℕ, _<_, _≤_, zero, suc}
 use native.Mathlib.Omega.{arith}
-use lib.Dec.{ltb}
-use lib.ListN.{length, getD, drop}
+use lib.ListN.{length, getD}
 use borrow.Author.Tests.{lt-ltb, le-ltb}
 use Rattle.paper.specs.Statements.{Statement}
 use Rattle.paper.specs.Variables.{mandatory}
 use Rattle.paper.specs.Records.{u32, frame-record}
-use Rattle.paper.specs.Answer.{crowded}
 use Rattle.paper.proofs.Alls.{All, all-none, all-more}
-use Rattle.stream.specs.Wrote.{Wrote}
 use Rattle.stream.proofs.Wrote.{wrote-as}
 use Rattle.reader.specs.Rows.{stmt}
 use Rattle.sight.specs.Static.{static, row-hyp, stack}
-use Rattle.sight.specs.Numbered.{Numbered, Renumbered, scanned, scanned-rows, Holds, SomeHold, CanScan, Scans, CanScanAll, ScansAll, Forgets}
+use Rattle.sight.specs.Numbered.{scanned-rows, Holds, SomeHold, CanScan, Scans, CanScanAll, ScansAll, Forgets}
 use Rattle.sight.proofs.Numbering.{renumbered-then}
 use Rattle.sight.proofs.Stacks.{stack-length}
-use Rattle.frames.specs.declared.assert.Built.{Built}
 use Rattle.frames.specs.declared.assert.Built.the-variants.{After, TooMany}
 use Rattle.frames.specs.InHand.{body, Whole, SomeWhole, PutFrame}
-use Rattle.frames.specs.Assert.{frame-at, needed, Apart, Framing, SomeFraming, Built-as, built, over, Frames}
+use Rattle.frames.specs.Assert.{frame-at, needed, Apart, Framing, SomeFraming, built, over, Frames}
 use Rattle.frames.proofs.Body.{frame-body}
 use Rattle.frames.proofs.Assembled.{stack-renumbered, needed-is, all-variables, crowded-is, whole-of}
 

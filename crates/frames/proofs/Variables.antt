@@ -1,23 +1,23 @@
 -- The variables that the walks number are those of the definition: mandatory ones, then optional ones.
 -- Assumes nothing.
 use mathlib.Core.Path.{_≡_, refl, sym, ap, _∙_}
-use mathlib.Core.Bool.{Bool, true, false}
+use mathlib.Core.Bool.{true, false}
 use mathlib.Core.List.{List, [], _∷_, _++_, map, append-nil}
 use Prim.Native.Nat.{ℕ}
 use lib.ListN.{drop}
-use Rattle.paper.specs.Base.{choose, gather, keep}
+use Rattle.paper.specs.Base.{gather, keep}
 use Rattle.paper.specs.Tokens.{Token}
 use Rattle.paper.specs.Statements.{Statement}
 use Rattle.paper.specs.State.{Formula}
-use Rattle.paper.specs.Variables.{see, sights, variable-in, variables-of, formula-in, mandatory}
+use Rattle.paper.specs.Variables.{see, sights, variable-in, variables-of, mandatory}
 use Rattle.paper.proofs.Tests.{split}
 use Rattle.paper.proofs.Lists.{gather-append}
 use Rattle.paper.proofs.Names.{sights-append}
-use Rattle.paper.proofs.Alls.{All, all-none, all-more}
+use Rattle.paper.proofs.Alls.{All, all-more}
 use Rattle.reader.specs.Rows.{stmt}
 use Rattle.nameck.specs.Atoms.{bytes-of}
-use Rattle.sight.specs.Static.{constant-name, static-symbol, static, row-hyp, row-disjoint}
-use Rattle.sight.specs.Numbered.{scan-name, scanned, scanned-rows}
+use Rattle.sight.specs.Static.{constant-name, static-symbol, static, row-hyp}
+use Rattle.sight.specs.Numbered.{scanned, scanned-rows}
 use Rattle.history.specs.Accepted.{is-hyp, is-essential}
 use Rattle.history.proofs.Active.{formulas-by-rows}
 

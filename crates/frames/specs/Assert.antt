@@ -2,14 +2,13 @@
 -- `h` are the rows of the active hypotheses, in text order; the rows of the active `$d` are on their stack.
 use mathlib.Core.Path.{_≡_}
 use mathlib.Core.Logic.{_≢_}
-use mathlib.Core.Bool.{Bool, true, false}
+use mathlib.Core.Bool.{true, false}
 use mathlib.Core.List.{List, [], map}
-use Prim.Native.Nat.{ℕ, _+_, _<_, _≤_}
+use Prim.Native.Nat.{ℕ, _<_, _≤_}
 use lib.ListN.{length, getD}
-use Rattle.paper.specs.Base.{keep}
 use Rattle.paper.specs.Statements.{Statement}
 use Rattle.paper.specs.Checks.{token}
-use Rattle.paper.specs.Variables.{member, variables-of, mandatory}
+use Rattle.paper.specs.Variables.{mandatory}
 use Rattle.paper.specs.Pairs.{in-order}
 use Rattle.paper.specs.Frames.{Frame, frame-of}
 use Rattle.paper.specs.Records.{frame-record}
@@ -22,7 +21,7 @@ use Rattle.nameck.specs.Atoms.{atoms}
 use Rattle.sight.specs.Static.{constant-name, static, row-hyp, row-disjoint, stack, rows-state}
 use Rattle.sight.specs.Numbered.{Numbered, Renumbered}
 use Rattle.history.specs.Accepted.{is-hyp}
-use Rattle.forms.specs.HypRows.{HypRows, among, is-essential}
+use Rattle.forms.specs.HypRows.{HypRows}
 use Rattle.disjoint.specs.Written.{names-at}
 use Rattle.frames.specs.declared.assert.Built.{Built}
 use Rattle.frames.specs.declared.assert.Built.the-variants.{After, TooMany}

@@ -1,6 +1,5 @@
 -- The front of an assertion's record, after its length, and what its writer asks and promises.
 -- `t` is the text, `w` the words, `n` is N + 1, `row` the row of the statement.
-use mathlib.Core.Path.{_≡_}
 use mathlib.Core.List.{List, _++_}
 use Prim.Native.Nat.{ℕ, _+_, _<_, _≤_}
 use lib.ListN.{length}

@@ -1,15 +1,15 @@
 -- The frame of an assertion while it is written: its parts as functions of statement rows, and what the words stand for.
 -- `h` are the rows of the hypotheses, `d` those of the `$d`, `vs` the variables, `m` the mandatory ones.
 use mathlib.Core.Path.{_≡_}
-use mathlib.Core.Bool.{Bool, true}
-use mathlib.Core.List.{List, [], _∷_, _++_, map}
+use mathlib.Core.Bool.{true}
+use mathlib.Core.List.{List, _++_, map}
 use Prim.Native.Nat.{ℕ, _+_, _<_, _≤_}
-use lib.ListN.{length, take}
+use lib.ListN.{length}
 use Rattle.paper.specs.Base.{gather}
 use Rattle.paper.specs.Statements.{Statement}
 use Rattle.paper.specs.Variables.{member, variables-of}
 use Rattle.paper.specs.Expressions.{pool-of, expression, hypotheses, pooled}
-use Rattle.paper.specs.Records.{u16, u32, string, framed, expression-bytes, hypothesis-bytes}
+use Rattle.paper.specs.Records.{u32, string, expression-bytes, hypothesis-bytes}
 use Rattle.area.specs.Cells.{symbol-cell, word}
 use Rattle.stream.specs.Wrote.{Wrote}
 use Rattle.reader.specs.Rows.{stmt}

@@ -1,7 +1,6 @@
 -- What the stub frame of a `$f` asks of the words and promises of the buffer.
 -- `t` is the text, `w` the words, `n` is N + 1, `row` the row of the statement.
 use mathlib.Core.Path.{_≡_}
-use mathlib.Core.Bool.{true}
 use mathlib.Core.List.{List}
 use Prim.Native.Nat.{ℕ, _+_, _<_, _≤_}
 use lib.ListN.{length}

@@ -3,8 +3,7 @@
 use forms::words;
 use paper::StatementOffset;
 ghost use mathlib.Core.Path.{_≡_};
-ghost use Prim.Native.Nat.{_+_, _<_, _≤_, _^_};
-ghost use lib.ListN.{length};
+ghost use Prim.Native.Nat.{_+_, _<_, _^_};
 ghost use Rattle.forms.specs.Words.{name-bytes, NameWords};
 ghost use Rattle.frames.specs.Stub.{CanStub, Stubs};
 

@@ -1,10 +1,10 @@
 -- The searches of the definitions over one list after another.
 -- For every crate; nothing here is about Metamath.
 use mathlib.Core.Path.{_≡_, refl, sym, ap, _∙_}
-use mathlib.Core.Bool.{Bool, true, false}
+use mathlib.Core.Bool.{Bool}
 use mathlib.Core.List.{List, [], _∷_, _++_, append-assoc}
 use mathlib.Core.Option.{Option, none, some}
-use Rattle.paper.specs.Base.{choose, all, any, keep, find, orElse, latest, gather}
+use Rattle.paper.specs.Base.{choose, keep, find, orElse, latest, gather}
 use Rattle.paper.proofs.Tests.{split}
 
 pub gather-append : {A B : Type 0} (f : A → List B) (l m : List A) → gather f (l ++ m) ≡ gather f l ++ gather f m

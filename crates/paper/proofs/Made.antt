@@ -1,6 +1,6 @@
 -- Lists made by a rule of the index: two rules that agree, and a list that is mapped.
 -- For every crate; nothing here is about Metamath.
-use mathlib.Core.Path.{_≡_, refl, sym, ap, _∙_}
+use mathlib.Core.Path.{_≡_, refl, ap, _∙_}
 use mathlib.Core.List.{List, [], _∷_, _++_, map}
 use Prim.Native.Nat.{ℕ, zero, suc, _+_, _<_}
 use native.Mathlib.Omega.{arith}

@@ -8,7 +8,7 @@ use Prim.Native.Nat.{ℕ}
 use native.Mathlib.Omega.{arith}
 use lib.Dec.{eqb}
 use borrow.Author.Tests.{eq-eqb, eqb-true}
-use Rattle.paper.specs.Base.{choose, sameb}
+use Rattle.paper.specs.Base.{sameb}
 
 -- by cases on a test, with what it says
 pub split : {P : Type 0} (w : Bool) → (w ≡ true → P) → (w ≡ false → P) → P

@@ -1,7 +1,7 @@
 -- Numbers given back: the answer, with 0 to 9 in their order, and every lent buffer at exit.
 -- Numbers 1 to 9 report both used lengths as 0 and change neither output buffer.
-use mathlib.Core.Bool.{Bool, true, false}
-use mathlib.Core.List.{List, [], _∷_, _++_}
+use mathlib.Core.Bool.{Bool, false}
+use mathlib.Core.List.{List, _++_}
 use mathlib.Core.Option.{Option, none, some}
 use Prim.Native.Nat.{ℕ, _+_}
 use lib.Dec.{ltb}
@@ -9,7 +9,7 @@ use lib.ListN.{length, take, drop, replicate}
 use Rattle.paper.specs.Base.{choose, find, gather}
 use Rattle.paper.specs.Statements.{Statement}
 use Rattle.paper.specs.Reader.{Outcome, refused, given, reading}
-use Rattle.paper.specs.Frames.{Full, Frame, stub, full}
+use Rattle.paper.specs.Frames.{Frame, stub, full}
 use Rattle.paper.specs.Give.{Given, all-given}
 use Rattle.paper.specs.Records.{frame-stream, diag-stream}
 use Rattle.paper.specs.declared.Refusal.{Refusal}

@@ -1,6 +1,5 @@
 -- Scope rules: the diagnostics of one statement, in order of discovery.
 -- `w` is the statements of the whole text, `v` what is active at the statement `s`.
-use mathlib.Core.Bool.{Bool, true, false}
 use mathlib.Core.List.{List, [], _∷_, _++_}
 use mathlib.Core.Option.{Option, none, some}
 use Prim.Native.Nat.{ℕ, zero, suc}

@@ -1,10 +1,8 @@
 -- Scope rules: what one statement gives, and the statements one after the other.
 -- A statement is accepted when it got no diagnostic; only then does it record, and only then has it a frame.
-use mathlib.Core.Bool.{Bool, true, false}
-use mathlib.Core.List.{List, [], _∷_, _++_, map}
+use mathlib.Core.List.{List, [], _∷_, map}
 use Prim.Native.Nat.{ℕ}
 use Rattle.paper.specs.Base.{choose}
-use Rattle.paper.specs.Tokens.{Token}
 use Rattle.paper.specs.Statements.{Kind, $c, $v, $d, $f, $e, $a, $p, Statement, outermost}
 use Rattle.paper.specs.State.{Nested, Hyp, float, essential, Disjoint, State, nothing, plus, view}
 use Rattle.paper.specs.Checks.{Diag, diag, token, check-label, check-outer, nested-records, nested-diags, check-float, check-expression, check-disjoint}

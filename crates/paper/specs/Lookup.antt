@@ -1,10 +1,9 @@
 -- Look-up walks the whole frame buffer first. A record is well framed if four bytes remain, its length is at least 2 and
 -- fits the buffer, its kind is 1, 2 or 3, and its label lies within it.
-use mathlib.Core.Bool.{Bool, true, false}
 use mathlib.Core.List.{List, [], _∷_}
 use mathlib.Core.Option.{Option, none, some}
 use Prim.Native.Nat.{ℕ, zero, suc, _+_, _*_}
-use lib.Dec.{eqb, leb, ltb}
+use lib.Dec.{eqb, ltb}
 use lib.ListN.{length, getD, take, drop}
 use Rattle.paper.specs.Base.{choose, or, sameb}
 use Rattle.paper.specs.declared.Found.{Found}

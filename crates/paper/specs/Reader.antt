@@ -1,7 +1,7 @@
 -- The reader: which token the grammar allows where, and the statements of a text or one of numbers 1 to 6.
 -- Statements: `$c` and `$v` with one or more math tokens; `$d` with two or more; label `$f` with exactly two; label
 -- `$e` and label `$a` with one or more; label `$p` with one or more, `$=`, one or more proof tokens without `$`.
-use mathlib.Core.Bool.{Bool, true, false}
+use mathlib.Core.Bool.{Bool, true}
 use mathlib.Core.List.{List, [], _∷_, _++_}
 use mathlib.Core.Option.{Option, none, some}
 use Prim.Native.Nat.{ℕ, zero, suc, _+_, _*_}

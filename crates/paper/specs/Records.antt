@@ -1,6 +1,6 @@
 -- Record streams. Numbers are little-endian, length first. Record: u32 length of what follows, u16 kind, payload.
 -- String: u32 length, bytes.
-use mathlib.Core.Bool.{Bool, true, false}
+use mathlib.Core.Bool.{Bool}
 use mathlib.Core.List.{List, [], _∷_, _++_}
 use Prim.Native.Nat.{ℕ, zero, suc, _+_, _*_, _/_, _%_}
 use lib.ListN.{length, take, drop}

@@ -1,7 +1,7 @@
 -- Scope rules: what statements have recorded, each with its end, and what of it is active at an offset.
 -- A declaration is active at a later statement when its end is none or above that statement's offset.
-use mathlib.Core.Bool.{Bool, true, false}
-use mathlib.Core.List.{List, [], _∷_, _++_}
+use mathlib.Core.Bool.{Bool, false}
+use mathlib.Core.List.{List, [], _++_}
 use mathlib.Core.Option.{Option, none, some}
 use Prim.Native.Nat.{ℕ}
 use lib.Dec.{ltb}

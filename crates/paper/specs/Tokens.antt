@@ -4,7 +4,6 @@ use mathlib.Core.Bool.{Bool, true, false}
 use mathlib.Core.List.{List, [], _∷_}
 use mathlib.Core.Option.{Option, none, some}
 use Prim.Native.Nat.{ℕ, suc}
-use lib.Dec.{eqb}
 use Rattle.paper.specs.Base.{choose, or, sameb, all}
 use Rattle.paper.specs.Bytes.{white, printable, label-byte, math-byte}
 

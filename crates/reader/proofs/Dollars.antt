@@ -6,22 +6,22 @@ use mathlib.Core.Bool.{Bool, true, false}
 use mathlib.Core.List.{List, [], _∷_, _++_, append-nil}
 use mathlib.Core.Option.{Option, none, some}
 use Prim.Native.Nat.{ℕ, zero, suc, _+_, _-_, _<_, _≤_}
-use native.Mathlib.Nat.{add-zero, add-suc, suc-add}
+use native.Mathlib.Nat.{add-zero}
 use native.Mathlib.Numerals.{add-one}
 use native.Mathlib.Omega.{arith}
 use lib.Dec.{eqb}
 use lib.ListN.{length, getD, drop, drop-of-length-le}
 use lib.Seq.{drop-cons, drop-drop}
 use borrow.Author.Tests.{eq-eqb, ne-eqb, eqb-true}
-use Rattle.paper.specs.Base.{choose, and, sameb}
+use Rattle.paper.specs.Base.{and, sameb}
 use Rattle.paper.specs.Bytes.{white}
-use Rattle.paper.specs.Tokens.{Token, put, prefix, run, toks, key}
-use Rattle.paper.specs.Comments.{outside, inside, next, after, shown, visible}
+use Rattle.paper.specs.Tokens.{Token, run, toks, key}
+use Rattle.paper.specs.Comments.{outside, inside, after, visible}
 use Rattle.paper.proofs.Tests.{split, clash, eqb-ne}
 use Rattle.token.specs.Words.{tokens-from}
 use Rattle.token.proofs.Classes.{white-low}
 use Rattle.reader.specs.Dollar.{gap-first, shuts, close-from, opens-at, seek, Dollar}
-use Rattle.reader.specs.Passed.{Passed, Commented}
+use Rattle.reader.specs.Passed.{Commented}
 use Rattle.reader.specs.declared.comment.Comment.the-variants as comment
 use Rattle.reader.proofs.Passes.{tokens-end}
 

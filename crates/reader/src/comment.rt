@@ -3,7 +3,6 @@
 use token::class::class_of;
 use token::cursor::Cursor;
 use token::cursor::KEY_COMMENT;
-use token::cursor::KEY_COMMENT_END;
 use token::cursor::Next;
 use token::cursor::Span;
 use token::cursor::is_key;

@@ -3,13 +3,13 @@
 use mathlib.Core.Path.{_≡_, refl, sym, ap, _∙_}
 use mathlib.Core.Logic.{_≢_}
 use mathlib.Core.Bool.{Bool, true, false}
-use mathlib.Core.List.{List, [], _∷_}
+use mathlib.Core.List.{List, []}
 use mathlib.Core.Option.{Option, none, some}
-use Prim.Native.Nat.{ℕ, zero, suc, _+_, _*_, _%_, _<_, _≤_}
+use Prim.Native.Nat.{ℕ, _+_, _*_, _%_, _<_, _≤_}
 use native.Mathlib.Omega.{arith}
-use lib.Dec.{eqb, ltb}
+use lib.Dec.{eqb}
 use lib.ListN.{length, getD, set, length-set}
-use borrow.Author.Tests.{eqb-true, eq-eqb, ne-eqb, ltb-true, ltb-false}
+use borrow.Author.Tests.{eqb-true, eq-eqb, ne-eqb}
 use Rattle.paper.specs.Base.{choose, any}
 use Rattle.paper.specs.Statements.{Statement, none-end}
 use Rattle.paper.specs.Names.{Declared, global}
@@ -18,11 +18,11 @@ use Rattle.paper.proofs.Tests.{split, eqb-ne}
 use Rattle.area.specs.Cells.{symbol-cell, word}
 use Rattle.area.proofs.Laws.{word-same, word-other, word-at}
 use Rattle.nameck.specs.Atoms.{atoms, name-of}
-use Rattle.nameck.specs.Named.{global-word, Named, Fresh}
+use Rattle.nameck.specs.Named.{global-word}
 use Rattle.nameck.proofs.Kept.{named-kept}
 use Rattle.sight.specs.Static.{is-constant, constant-name}
-use Rattle.sight.specs.Sums.{sum, one}
-use Rattle.sight.specs.Numbered.{number-word, Numbered, Renumbered, Holds, constant-words, Unnumbered, SomeUnnumbered, Presets}
+use Rattle.sight.specs.Sums.{one}
+use Rattle.sight.specs.Numbered.{number-word, Renumbered, constant-words, Unnumbered, SomeUnnumbered, Presets}
 use Rattle.sight.proofs.Sums.{sum-zero}
 use Rattle.sight.proofs.Numbering.{renumbered-none, renumbered-then}
 use Rattle.sight.proofs.Walks.{kept-renumbered}

@@ -4,16 +4,15 @@ use mathlib.Core.Path.{_≡_, refl, sym, ap, _∙_}
 use mathlib.Core.Logic.{_≢_}
 use mathlib.Core.Bool.{Bool, true, false}
 use mathlib.Core.List.{List, [], _∷_, _++_}
-use Prim.Native.Nat.{ℕ, zero, suc, _+_, _*_, _<_, _≤_}
+use Prim.Native.Nat.{ℕ, _+_, _*_, _<_, _≤_}
 use native.Mathlib.Omega.{arith}
 use lib.Dec.{eqb, ltb}
 use lib.ListN.{length, getD, set, length-append, length-set, List·getD-append}
 use lib.Seq.{getD-append-add}
-use borrow.Author.Tests.{eqb-true, eq-eqb, ne-eqb, ltb-true, ltb-false}
-use Rattle.paper.specs.Base.{choose, sameb}
+use borrow.Author.Tests.{eqb-true, ltb-true, ltb-false}
 use Rattle.paper.specs.Statements.{Statement, none-end}
 use Rattle.paper.specs.Variables.{member, see, index}
-use Rattle.paper.proofs.Tests.{split, clash, eqb-ne, same-refl, ne-same}
+use Rattle.paper.proofs.Tests.{split, eqb-ne, same-refl, ne-same}
 use Rattle.paper.proofs.Names.{member-left, member-right, member-one, index-in, index-past, Distinct, distinct-see}
 use Rattle.area.specs.Cells.{bucket-cell, symbol-cell, word}
 use Rattle.area.proofs.Laws.{word-same, word-other}
@@ -22,7 +21,7 @@ use Rattle.nameck.proofs.Atoms.{atom-of-name, name-occurs}
 use Rattle.sight.specs.Sums.{sum, one}
 use Rattle.sight.specs.Static.{constant-name}
 use Rattle.sight.specs.Numbered.{number-word, Entry, Numbered, Renumbered, scan-name, with-number}
-use Rattle.sight.proofs.Sums.{sum-same, sum-one, sum-few, sum-fewer}
+use Rattle.sight.proofs.Sums.{sum-one, sum-few, sum-fewer}
 
 one-few : (b : Bool) → one b ≤ 1
 one-few true = omega arith

@@ -2,19 +2,19 @@
 -- Assumes nothing.
 use mathlib.Core.Path.{_≡_, refl, sym, ap, _∙_}
 use mathlib.Core.Logic.{_≢_}
-use mathlib.Core.Bool.{Bool, true, false}
+use mathlib.Core.Bool.{true, false}
 use mathlib.Core.List.{List, [], _∷_, _++_}
-use Prim.Native.Nat.{ℕ, zero, suc, _+_, _-_, _*_, _<_, _≤_}
+use Prim.Native.Nat.{ℕ, zero, suc, _+_, _*_, _<_, _≤_}
 use native.Mathlib.Omega.{arith}
 use native.Mathlib.Numerals.{add-one}
 use lib.Dec.{eqb, ltb, leb}
 use lib.ListN.{length, getD, drop, set, length-append, length-set, List·getD-append}
 use lib.Seq.{getD-append-add}
-use borrow.Author.Tests.{eqb-true, eq-eqb, ne-eqb, ltb-true, ltb-false, le-leb, lt-leb, leb-true, leb-false}
+use borrow.Author.Tests.{eqb-true, ltb-true, ltb-false, le-leb, lt-leb, leb-true, leb-false}
 use Rattle.paper.specs.Base.{choose, and, any}
 use Rattle.paper.specs.Statements.{Statement, none-end}
 use Rattle.paper.specs.Variables.{member, index}
-use Rattle.paper.proofs.Tests.{split, eqb-ne, clash}
+use Rattle.paper.proofs.Tests.{split, eqb-ne}
 use Rattle.paper.proofs.Names.{index-lt, index-at}
 use Rattle.area.specs.Cells.{statement-cell, bucket-cell, symbol-cell, word}
 use Rattle.area.proofs.Laws.{word-same, word-other}
@@ -23,8 +23,8 @@ use Rattle.nameck.specs.Atoms.{atoms, atom-of, name-of}
 use Rattle.nameck.proofs.Atoms.{atom-below, atom-of-name, name-of-atom}
 use Rattle.nameck.proofs.Kept.{named-kept}
 use Rattle.sight.specs.Static.{stack, constant-name}
-use Rattle.sight.specs.Sums.{sum, one}
-use Rattle.sight.specs.Numbered.{number-word, Numbered, Renumbered, scanned, scanned-rows, Holds, SomeHold, CanScan, Scans, CanScanAll, ScansAll, Forgets}
+use Rattle.sight.specs.Sums.{one}
+use Rattle.sight.specs.Numbered.{number-word, Renumbered, scanned, scanned-rows, Holds, SomeHold, CanScan, Scans, CanScanAll, ScansAll, Forgets}
 use Rattle.sight.proofs.Sums.{sum-zero}
 use Rattle.sight.proofs.Numbering.{few, renumbered-none, renumbered-then}
 use Rattle.sight.proofs.Walks.{kept-renumbered, Bounds}

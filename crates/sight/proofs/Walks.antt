@@ -1,32 +1,28 @@
 -- The walks over names: the start, one token, and the end of each.
 -- Assumes nothing.
 use mathlib.Core.Path.{_≡_, refl, sym, ap, _∙_}
-use mathlib.Core.Logic.{_≢_}
-use mathlib.Core.Bool.{Bool, true, false}
+use mathlib.Core.Bool.{true, false}
 use mathlib.Core.List.{List, [], _∷_, _++_}
-use Prim.Native.Nat.{ℕ, zero, suc, _+_, _-_, _*_, _<_, _≤_}
+use Prim.Native.Nat.{ℕ, suc, _+_, _-_, _*_, _<_, _≤_}
 use native.Mathlib.Omega.{arith}
-use native.Mathlib.Numerals.{add-one}
 use lib.Dec.{eqb}
-use lib.ListN.{length, getD, take, drop, drop-of-length-le, length-drop, length-append}
-use lib.Seq.{drop-cons, take-suc, getD-drop, take-all}
-use borrow.Author.Tests.{eqb-true, eq-eqb, ne-eqb}
-use Rattle.paper.specs.Base.{choose}
+use lib.ListN.{length, getD, take, drop, length-drop, length-append}
+use lib.Seq.{take-suc, getD-drop, take-all}
+use borrow.Author.Tests.{eqb-true}
 use Rattle.paper.specs.Tokens.{Token}
 use Rattle.paper.specs.Statements.{Statement}
 use Rattle.paper.specs.Variables.{member}
 use Rattle.paper.specs.Checks.{token, no-token}
 use Rattle.paper.proofs.Tests.{split, eqb-ne}
-use Rattle.area.specs.Cells.{statement-cell, bucket-cell, symbol-cell, math-cell, word}
-use Rattle.reader.specs.Rows.{stmt, before, Shape}
+use Rattle.area.specs.Cells.{statement-cell, symbol-cell, math-cell, word}
+use Rattle.reader.specs.Rows.{stmt, before}
 use Rattle.nameck.specs.Atoms.{atoms, atom-of, name-of}
 use Rattle.nameck.specs.Named.{Named}
 use Rattle.nameck.specs.Kept.{Kept}
 use Rattle.nameck.proofs.Atoms.{token-in, atom-below, name-of-atom}
 use Rattle.nameck.proofs.Kept.{named-kept, math-row}
-use Rattle.sight.specs.Static.{stack}
-use Rattle.sight.specs.Numbered.{number-word, Numbered, Renumbered, scan-name, scanned, scanned-rows, with-number, seen-words, seen-count, Holds, SomeHold, CanScan, Scans, CanScanAll, ScansAll}
-use Rattle.sight.proofs.Numbering.{few, fewer, scan-old, scan-new, numbered-new, renumbered-number, renumbered-none, renumbered-then}
+use Rattle.sight.specs.Numbered.{number-word, Renumbered, scan-name, scanned, with-number, seen-words, seen-count, Holds, CanScan, Scans}
+use Rattle.sight.proofs.Numbering.{few, scan-old, scan-new, numbered-new, renumbered-number, renumbered-none, renumbered-then}
 
 -- ---- what a numbering leaves alone
 pub kept-renumbered : {n : ℕ} {w v : List ℕ} → Renumbered n w v → Kept n w v

@@ -1,7 +1,7 @@
 -- The variables of the frame in hand: the list `vs` of names, by first sight, as the words hold it.
 -- Bucket k holds the atom of the k-th; word 5 of a symbol holds its number + 1, no end for a constant, else 0.
 use mathlib.Core.Path.{_≡_}
-use mathlib.Core.Bool.{Bool, true, false}
+use mathlib.Core.Bool.{true, false}
 use mathlib.Core.List.{List, [], _∷_}
 use Prim.Native.Nat.{ℕ, _+_, _%_, _<_, _≤_}
 use lib.Dec.{eqb}

@@ -1,6 +1,6 @@
 -- Frames as functions of statement rows: which names are constants is fixed by the whole text, so the formula of an
 -- accepted `$e`, `$a` or `$p`, and with it a frame, can be read off the statements.
-use mathlib.Core.Bool.{Bool, true, false}
+use mathlib.Core.Bool.{Bool, false}
 use mathlib.Core.List.{List, [], _∷_, _++_, map}
 use mathlib.Core.Option.{Option, none, some}
 use Prim.Native.Nat.{ℕ, zero, suc}

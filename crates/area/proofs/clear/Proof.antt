@@ -1,4 +1,3 @@
-use native.Mathlib.Omega.{arith}
 use Rattle.area.proofs.Laws.{cleared-all}
 use borrow.Author.Needs.{needs}
 use Rattle.area.proofs.clear.Statement.{statement}

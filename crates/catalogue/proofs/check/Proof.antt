@@ -1,6 +1,6 @@
-use mathlib.Core.Path.{sym, ap, _∙_}
+use mathlib.Core.Path.{ap, _∙_}
 use Prim.Native.Nat.{ℕ}
-use lib.ListN.{length, replicate}
+use lib.ListN.{replicate}
 use Rattle.fold.proofs.Starts.{read-held}
 use Rattle.catalogue.proofs.Promises.{unread, answered}
 use borrow.Author.Needs.{needs}

@@ -1,5 +1,3 @@
-use mathlib.Core.Path.{_≡_, refl, sym, ap, _∙_}
-use native.Mathlib.Omega.{arith}
 use Rattle.fold.proofs.Starts.{read-held}
 use borrow.Author.Needs.{needs}
 use Rattle.checks_vectors.proofs.diagnose.Statement.{statement}

@@ -1,8 +1,7 @@
-use mathlib.Core.Path.{_≡_, refl, sym, ap, _∙_}
-use Prim.Native.Nat.{ℕ, _+_, _-_, _<_, _≤_}
+use Prim.Native.Nat.{_-_}
 use native.Mathlib.Omega.{arith}
 use Rattle.area.proofs.Laws.{word-at}
-use Rattle.sight.proofs.Stacks.{InvForget, Bucket, forget-start, forget-within, forget-step, forget-end}
+use Rattle.sight.proofs.Stacks.{InvForget, forget-start, forget-within, forget-step, forget-end}
 use borrow.Author.Needs.{needs}
 use Rattle.sight.proofs.forget.Statement.{statement}
 use Rattle.sight.proofs.forget.Tie as tie

@@ -1,4 +1,3 @@
-use native.Mathlib.Omega.{arith}
 use Rattle.sight.proofs.Constants.{constant-set, constant-kept}
 use borrow.Author.Needs.{needs}
 use Rattle.sight.proofs.mark_constant.Statement.{statement}

@@ -1,6 +1,6 @@
-use Prim.Native.Nat.{ℕ, _-_}
+use Prim.Native.Nat.{_-_}
 use native.Mathlib.Omega.{arith}
-use Rattle.sight.proofs.Constants.{InvMark, Room, mark-start, mark-within, mark-step, mark-end}
+use Rattle.sight.proofs.Constants.{InvMark, mark-start, mark-within, mark-step, mark-end}
 use borrow.Author.Needs.{needs}
 use Rattle.sight.proofs.mark_constants.Statement.{statement}
 use Rattle.sight.proofs.mark_constants.Tie as tie

@@ -1,11 +1,8 @@
-use mathlib.Core.Path.{_≡_, refl, sym, ap, _∙_}
-use Prim.Native.Nat.{ℕ, _+_, _-_, _<_, _≤_}
+use Prim.Native.Nat.{_+_, _-_}
 use native.Mathlib.Omega.{arith}
-use lib.ListN.{length, getD}
-use Rattle.area.specs.Cells.{word, statement-cell, math-cell}
+use lib.ListN.{getD}
 use Rattle.area.proofs.Laws.{word-at}
-use Rattle.sight.specs.Numbered.{CanScan, Scans}
-use Rattle.sight.proofs.Walks.{InvScan, Bounds, Step, scan-bounds, scan-within, scan-start, scan-step, scan-end}
+use Rattle.sight.proofs.Walks.{InvScan, Step, scan-bounds, scan-within, scan-start, scan-step, scan-end}
 use borrow.Author.Needs.{needs}
 use Rattle.sight.proofs.scan.Statement.{statement}
 use Rattle.sight.proofs.scan.Tie as tie

@@ -1,8 +1,6 @@
-use mathlib.Core.Path.{_≡_, refl, sym, ap, _∙_}
-use Prim.Native.Nat.{ℕ, _+_, _-_, _<_, _≤_}
+use Prim.Native.Nat.{_-_}
 use native.Mathlib.Omega.{arith}
 use Rattle.area.proofs.Laws.{word-at}
-use Rattle.sight.proofs.Walks.{Bounds}
 use Rattle.sight.proofs.Stacks.{InvAll, all-start, all-can, all-step, all-end, all-bounds}
 use borrow.Author.Needs.{needs}
 use Rattle.sight.proofs.scan_all.Statement.{statement}

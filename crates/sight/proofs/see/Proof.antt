@@ -1,4 +1,3 @@
-use native.Mathlib.Omega.{arith}
 use lib.ListN.{length-set}
 use Rattle.sight.proofs.Returns.{see-old, see-new}
 use borrow.Author.Needs.{needs}

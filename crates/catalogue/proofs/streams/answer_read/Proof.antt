@@ -1,5 +1,5 @@
 use Rattle.stream.proofs.Wrote.{none-before}
-use mathlib.Core.Path.{sym, ap, _∙_}
+use mathlib.Core.Path.{ap}
 use native.Mathlib.Omega.{arith}
 use lib.ListN.{length}
 use Rattle.catalogue.proofs.Numbers.{some-whole, whole-again, many, short-frames, short-diags, done}

@@ -1,5 +1,5 @@
 use Rattle.fold.proofs.Folds.{InvFold, fold-start, can-step, row-room, fold-next, fold-over, fold-end}
-use mathlib.Core.Path.{sym, _∙_}
+use mathlib.Core.Path.{_∙_}
 use Prim.Native.Nat.{_-_}
 use native.Mathlib.Omega.{arith}
 use borrow.Author.Needs.{needs}

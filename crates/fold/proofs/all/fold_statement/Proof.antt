@@ -1,4 +1,3 @@
-use mathlib.Core.Path.{sym, _∙_}
 use native.Mathlib.Omega.{arith}
 use Rattle.fold.specs.Fold.{next, over}
 use Rattle.fold.proofs.Folds.{some-turn, some-checks}

@@ -1,4 +1,3 @@
-use native.Mathlib.Omega.{arith}
 use Prim.Native.Nat.{_-_}
 use Rattle.forms.proofs.Constants.{atom-read, sizes-can}
 use Rattle.forms.proofs.Fragments.{InvVariables, variables-begin, variables-step, variables-end}

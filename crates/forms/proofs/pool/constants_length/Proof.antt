@@ -1,4 +1,3 @@
-use native.Mathlib.Omega.{arith}
 use Prim.Native.Nat.{_-_}
 use Rattle.forms.proofs.Constants.{atom-read, InvSizes, sizes-begin, sizes-can, sizes-step, sizes-end}
 use borrow.Author.Needs.{needs}

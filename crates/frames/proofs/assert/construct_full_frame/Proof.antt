@@ -1,5 +1,4 @@
-use mathlib.Core.Path.{_≡_, refl, sym, ap, _∙_}
-use native.Mathlib.Omega.{arith}
+use mathlib.Core.Path.{sym}
 use Rattle.frames.proofs.Stages.{can-first, can-second, can-third, numbered-hold, frame-whole, frames-over, frames-built}
 use borrow.Author.Needs.{needs}
 use Rattle.frames.proofs.assert.construct_full_frame.Statement.{statement}

@@ -1,7 +1,5 @@
-use mathlib.Core.Path.{_≡_, refl, sym, ap, _∙_}
 use native.Mathlib.Omega.{arith}
-use Rattle.frames.proofs.Floats.{Spelt}
-use Rattle.frames.proofs.Fronts.{FrontWords, can-front, fronts}
+use Rattle.frames.proofs.Fronts.{can-front, fronts}
 use borrow.Author.Needs.{needs}
 use Rattle.frames.proofs.front.put_front.Statement.{statement}
 use Rattle.frames.proofs.front.put_front.Tie as tie

@@ -1,6 +1,5 @@
-use mathlib.Core.Path.{_≡_, refl, sym, ap, _∙_}
 use native.Mathlib.Omega.{arith}
-use Rattle.frames.proofs.Parts.{hand-front, hand-names, hand-stack, hand-row, hand-before, hand-small, hand-few, head-put}
+use Rattle.frames.proofs.Parts.{hand-front, hand-names, hand-stack, hand-row, hand-before, hand-few, head-put}
 use borrow.Author.Needs.{needs}
 use Rattle.frames.proofs.full.put_head.Statement.{statement}
 use Rattle.frames.proofs.full.put_head.Tie as tie

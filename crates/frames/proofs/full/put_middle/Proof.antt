@@ -1,6 +1,5 @@
-use mathlib.Core.Path.{_≡_, refl, sym, ap, _∙_}
 use native.Mathlib.Omega.{arith}
-use Rattle.frames.proofs.Parts.{hand-hyps, hand-some, hand-stack, hand-row, hand-before, hand-numbers, hand-small, hand-few, middle-put}
+use Rattle.frames.proofs.Parts.{hand-hyps, hand-some, hand-row, hand-before, hand-numbers, hand-small, middle-put}
 use borrow.Author.Needs.{needs}
 use Rattle.frames.proofs.full.put_middle.Statement.{statement}
 use Rattle.frames.proofs.full.put_middle.Tie as tie

@@ -1,8 +1,8 @@
-use mathlib.Core.Path.{_≡_, refl, sym, ap, _∙_}
-use Prim.Native.Nat.{ℕ, _+_, _<_, _≤_}
+use mathlib.Core.Path.{ap, _∙_}
+use Prim.Native.Nat.{_+_}
 use native.Mathlib.Omega.{arith}
 use Rattle.area.specs.Cells.{math-cell, word}
-use Rattle.frames.proofs.Floats.{Spelt, FloatWords, stub-words, stubs, stub-requires}
+use Rattle.frames.proofs.Floats.{stub-words, stubs, stub-requires}
 use borrow.Author.Needs.{needs}
 use Rattle.frames.proofs.stub.construct_stub_frame.Statement.{statement}
 use Rattle.frames.proofs.stub.construct_stub_frame.Tie as tie

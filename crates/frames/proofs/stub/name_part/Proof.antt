@@ -1,5 +1,3 @@
-use mathlib.Core.Path.{_≡_, refl, sym, ap, _∙_}
-use native.Mathlib.Omega.{arith}
 use Rattle.forms.specs.Words.{name-bytes}
 use borrow.Author.Needs.{needs}
 use Rattle.frames.proofs.stub.name_part.Statement.{statement}

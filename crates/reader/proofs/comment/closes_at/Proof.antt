@@ -1,7 +1,6 @@
 use mathlib.Core.Path.{sym, _∙_}
 use Prim.Native.Nat.{_+_}
 use borrow.Author.Tests.{eq-eqb, ne-eqb, not-true, not-false}
-use native.Mathlib.Omega.{arith}
 use Rattle.reader.proofs.Dollars.{shuts-none, shuts-some}
 use borrow.Author.Needs.{needs}
 use Rattle.reader.proofs.comment.closes_at.Statement.{statement}

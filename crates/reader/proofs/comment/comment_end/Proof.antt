@@ -1,6 +1,5 @@
 use mathlib.Core.Path.{_≡_, refl, sym, _∙_}
 use Prim.Native.Nat.{_-_, _≤_}
-use native.Mathlib.Omega.{arith}
 use lib.ListN.{length}
 use Rattle.reader.specs.Dollar.{seek}
 use Rattle.reader.proofs.Dollars.{loop-none, loop-some, loop-on}
