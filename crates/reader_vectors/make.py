@@ -1,4 +1,4 @@
-# Writes this program's cases, `stdin`, and what it must write, `stdout`:
+# Writes this program's cases, `data/cases`, and what it must write, `stdout`:
 #     python3 make.py MODEL VECTORS
 # MODEL is the folder of model.py, document 01 as a program, which reads every text; VECTORS is a file of lines
 # `name text work-words ..`, of which the short texts are taken.
@@ -52,7 +52,9 @@ for text in (b"", b" ", b" \t\n\f\r ", b"$( a $)", b"$( a", b"$(", b"a $(", b"$(
              b"${", b"${ $}", b"${ $} $}", b"${ ${ $}", b"a", b"a b", b"$c a $. a", b"$c $.", b"$c a", b"$c a $c", b"$v $.", b"$v x $.", b"$d x $.",
              b"$d x y $.", b"$d $.", b"a $f x $.", b"a $f x y $.", b"a $f x y z $.", b"$f x y $.", b"a $e $.", b"a $e x $.", b"$e x $.", b"a $a $.",
              b"a $a x $.", b"a $p x $.", b"a $p $= x $.", b"a $p x $= $.", b"a $p x $= y $.", b"a $p x $= y", b"a $p x $= $( y $) $.",
-             b"a $p x $= y $= z $.", b"a $p x $= y $( $. $) z $( $) $.", b"a $c x $.", b"a# $a x $.", b"a.-_Z9 $a x $.", b"$a", b"$", b"$$", b"$x", b"x$", b"$c a$b $.",
+             b"a $p x $= y $= z $.", b"a $p x $= y $( $. $) z $( $) $.", b"a $p x $= y zz\t$.", b"a $p x $= y zz", b"a $p x $= y zz ", b"a $p x $= y z$ $.",
+             b"a $p x $= yy$.", b"a $p x $= y zz$( c $) $.", b"a $p x $= y z $( c", b"a $p x $= y $( c $) z", b"a $p x $= y $( c $) z$. $.", b"a $p x $= y $",
+             b"a $p x $= y z $c $.", b"a $p x $= y$z w", b"a $c x $.", b"a# $a x $.", b"a.-_Z9 $a x $.", b"$a", b"$", b"$$", b"$x", b"x$", b"$c a$b $.",
              b"$c $( c $) a $( d $) b $( e $) $.", b"$c a $( $.", b"a $( c $) $a $( d $) x $( e $) $.", b"${ $v x $. ${ $v y $. $} $v z $. $} $v w $.",
              b"$( $) $c a $. $)", b"$.", b"$=", b"$c\fa\r$.", WHOLE):
     add(text)
@@ -72,7 +74,7 @@ for line in open(sys.argv[2]):
         add(bytes.fromhex(word[1]), min(int(word[2]), MOST - 1))
 
 here = os.path.dirname(os.path.abspath(__file__))
-with open(os.path.join(here, "stdin"), "wb") as f:
+with open(os.path.join(here, "data", "cases"), "wb") as f:
     for text, words in cases:
         f.write(struct.pack("<HH", len(text), words) + text)
 with open(os.path.join(here, "stdout"), "w") as f:

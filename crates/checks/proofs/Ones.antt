@@ -13,31 +13,37 @@ use Rattle.paper.specs.Base.{gather, keep}
 use Rattle.paper.specs.Tokens.{Token}
 use Rattle.paper.specs.Statements.{Statement}
 use Rattle.paper.specs.Names.{owner, Declared, global}
-use Rattle.paper.specs.State.{Nested, Hyp, State, active-nested, active-hyp, nested-of, float-of, view, sense, Sense, constant}
+use Rattle.paper.specs.State.{Nested, Hyp, State, active-nested, active-hyp, nested-of, float-of, view, sense, Sense}
 use Rattle.paper.specs.Checks.{Diag, token, check-label, clash, redeclared, by-known, by-declared, verdict, verdict-diags, records, against, record-it, typecode-diags, variable-diags, float-diags, if-none, check-float}
 use Rattle.paper.specs.Records.{diag-record}
 use Rattle.paper.proofs.Tests.{split, eqb-ne}
 use Rattle.area.specs.Cells.{statement-cell, symbol-cell, word}
 use Rattle.reader.specs.Rows.{stmt}
 use Rattle.nameck.specs.Named.{Named}
+use Rattle.nameck.specs.Lookups.{owner-answer, global-answer, Owned, DeclaredBy}
+use Rattle.nameck.specs.declared.lookup.Owner.{Owner}
+use Rattle.nameck.specs.declared.lookup.Global.{Global}
 use Rattle.stream.specs.Wrote.{Wrote}
 use Rattle.stream.specs.Diagnostic.{diagnostic}
 use Rattle.stream.proofs.Wrote.{wrote-as}
 use Rattle.stream.proofs.Records.{wrote-diag}
-use Rattle.slots.specs.declared.Slot.{Slot}
-use Rattle.slots.specs.declared.Slot.the-variants.{At, Nothing}
-use Rattle.slots.specs.declared.Global.{Global}
+use Rattle.paper.specs.declared.TokenOffset.{TokenOffset}
+use Rattle.slots.specs.declared.StatementRow.{StatementRow}
+use Rattle.slots.specs.declared.FloatSlot.{FloatSlot}
+use Rattle.slots.specs.declared.FloatSlot.the-variants as floating
+use Rattle.slots.specs.declared.MarkSlot.{MarkSlot}
 use Rattle.slots.specs.declared.CheckedToken.{CheckedToken}
 use Rattle.slots.specs.Kept.{Room}
-use Rattle.slots.specs.Slots.{owner-slot, owner-of, global-slot, global-of, nested-slot, nested-at, float-slot, float-at, sense-word, checked-of, with-nested, Floats, Atomic}
+use Rattle.slots.specs.Slots.{nested-slot, nested-at, float-slot, float-at, with-nested, Floats, Atomic, Sensed}
 use Rattle.slots.specs.Marks.{first-in, mark-slot, marked-by}
 use Rattle.slots.proofs.Kept.{kept-none}
-use Rattle.slots.proofs.Slots.{kept-nested, nests-put}
-use Rattle.slots.proofs.Words.{owner-slot-is, global-slot-is, sense-word-is}
-use Rattle.slots.proofs.Marks.{by-slot, kept-mark, marks-see}
+use Rattle.slots.proofs.Slots.{by-float, kept-nested, nests-put}
+use Rattle.slots.proofs.Marks.{kept-mark, marks-see}
 use Rattle.paper.specs.Checks as paper
 use Rattle.checks.specs.declared.Verdict.{Verdict}
 use Rattle.checks.specs.declared.Verdict.the-variants as verdict-case
+use Rattle.checks.specs.declared.Earlier.{Earlier}
+use Rattle.checks.specs.declared.Earlier.the-variants as earlier
 use Rattle.checks.specs.Found.{sense-of, label-by, clash-by, redeclared-by, verdict-by, verdict-is, float-by, symbol-by, disjoint-by}
 use Rattle.checks.specs.Tokens.{Clashes, Outer, Judged, NestedToken, Sees, EapToken, DvToken, earlier-slot, Float, Label}
 use Rattle.checks.proofs.Told.{told-then}
@@ -48,55 +54,56 @@ pub same-told : {out out′ : List ℕ} {at q : ℕ} {d e : List Diag} → Wrote
 same-told w p = wrote-as w (ap (gather diag-record) p)
 
 -- ---- labels
-pub label-one : {w out out′ : List ℕ} {n at q a s : ℕ} {o : Slot} → o ≡ owner-slot w n a → (q ≤ at + 18) × Wrote out out′ at q (gather diag-record (label-by o s))
+pub label-one : {w out out′ : List ℕ} {n at q a s : ℕ} {o : Owner} → Owned w n a o → (q ≤ at + 18) × Wrote out out′ at q (gather diag-record (label-by o s))
     → Label w out out′ n at q a s
 unfolding check-label
 label-one {s = s} {o} e r =
     record {
       few = r .0;
       sim = λ {t} {l} z h y p.
-          let x : o ≡ owner-of (owner l (z .label)) = e ∙ owner-slot-is h y in
+          let x : o ≡ owner-answer (owner l (z .label)) = e .is h (y .below) ∙ rw (y .name) in
           same-told (r .1)
           (sym (label-is (owner l (z .label)) z)
-          ∙ ap (label-by (owner-of (owner l (z .label)))) p
-          ∙ ap (λ (b : Slot). label-by b s) (sym x));
+          ∙ ap (label-by (owner-answer (owner l (z .label)))) p
+          ∙ ap (λ (b : Owner). label-by b s) (sym x));
     }
 
-pub clash-one : {w out out′ : List ℕ} {n at q a s i : ℕ} {o : Slot} → o ≡ owner-slot w n a → (q ≤ at + 18) × Wrote out out′ at q (gather diag-record (clash-by o s i))
+pub clash-one : {w out out′ : List ℕ} {n at q a s i : ℕ} {o : Owner} → Owned w n a o → (q ≤ at + 18) × Wrote out out′ at q (gather diag-record (clash-by o s i))
     → Clashes w out out′ n at q a s i
 clash-one {s = s} {i} {o} e r =
     record {
       few = r .0;
       sim = λ {t} {l} y h z.
-          let x : o ≡ owner-of (owner l (y .bytes)) = e ∙ owner-slot-is h z in
-          same-told (r .1) (sym (ap (λ (b : Slot). clash-by b s i) x ∙ clash-is (owner l (y .bytes)) s i));
+          let x : o ≡ owner-answer (owner l (y .bytes)) = e .is h (z .below) ∙ rw (z .name) in
+          same-told (r .1) (sym (ap (λ (b : Owner). clash-by b s i) x ∙ clash-is (owner l (y .bytes)) s i));
     }
 
 -- ---- a token of an outermost `$c` or `$v`
-pub outer-one : {w out out₁ out₂ : List ℕ} {n at p q a o s i : ℕ} {g : Global} → Clashes w out out₁ n at p a s i → g ≡ global-slot w n a
+pub outer-one : {w out out₁ out₂ : List ℕ} {n at p q a o s i : ℕ} {g : Global} → Clashes w out out₁ n at p a s i → DeclaredBy w n a g
     → (q ≤ p + 18) × Wrote out₁ out₂ p q (gather diag-record (redeclared-by g o s i)) → Outer w out out₂ n at q a o s i
 outer-one {o = o} {s} {i} {g} c e r =
     record {
       few = omega (arith, r .0, c .few);
       sim = λ {t} {l} y h z m.
-          let x : g ≡ global-of (global l (y .bytes)) = e ∙ global-slot-is h z in
+          let x : g ≡ global-answer (global l (y .bytes)) = e .is h (z .below) ∙ rw (z .name) in
           told-then (clash (owner l (y .bytes)) s i) (redeclared (global l (y .bytes)) s i y) (c .sim y h z)
           (same-told (r .1)
           (sym (redeclared-is (global l (y .bytes)) y s i)
-          ∙ ap (λ (b : ℕ). redeclared-by (global-of (global l (y .bytes))) b s i) m
+          ∙ ap (λ (b : ℕ). redeclared-by (global-answer (global l (y .bytes))) b s i) m
           ∙ ap (λ (b : Global). redeclared-by b o s i) (sym x)));
     }
 
 -- ---- a token of a nested `$v`
-pub judged-one : {w : List ℕ} {n a o s : ℕ} {r : Verdict} → r ≡ verdict-by (global-slot w n a) o (nested-slot w n a s) → Judged w n a o s r
+pub judged-one : {w : List ℕ} {n a o s : ℕ} {g : Global} {r : Verdict} → DeclaredBy w n a g → r ≡ verdict-by g o (nested-slot w n a s) → Judged w n a o s r
 unfolding verdict
-judged-one {w} {n} {a} {o} {s} {r} e =
+judged-one {w} {n} {a} {o} {s} {g} {r} x e =
     record {
       is = λ {t} {l} {st} y h z m k.
           let d = global l (y .bytes) in
           let f = nested-of (keep (active-nested s) st) (y .bytes) in
           let j : nested-slot w n a s ≡ nested-at f = k .looks a s (z .below) (le-refl s) ∙ rw (z .name) in
-          let q : r ≡ verdict-by (global-of d) o (nested-at f) = e ∙ rw (global-slot-is h z, j) in
+          let i : g ≡ global-answer d = x .is h (z .below) ∙ rw (z .name) in
+          let q : r ≡ verdict-by (global-answer d) o (nested-at f) = e ∙ rw (i, j) in
           ap verdict-is q
           ∙ verdict-by-is d o f
           ∙ ap (λ (b : ℕ). by-declared d b (by-known f)) (sym m);
@@ -118,20 +125,20 @@ known-none w x y e = by-kind (global w (y .bytes)) (nested-of x (y .bytes)) e
         (λ p. split (d .constant) (λ q. no (rw (p, q) at e)) (λ q. no (rw (p, q) at e))))
 
 -- something stands against it
-pub nested-against : {w out out₁ out₂ : List ℕ} {n at p q a o e s i k r : ℕ} → Clashes w out out₁ n at p a s i → Judged w n a o s (verdict-case.Against k r)
-    → (q ≡ p + 18) × Wrote out₁ out₂ p q (diag-record (diagnostic k s i r)) → NestedToken w w out out₂ n at q a o e s i
+pub nested-against : {w out out₁ out₂ : List ℕ} {n at p q a o e s i k : ℕ} {r : TokenOffset} → Clashes w out out₁ n at p a s i → Judged w n a o s (verdict-case.Against k r)
+    → (q ≡ p + 18) × Wrote out₁ out₂ p q (diag-record (diagnostic k s i (r .0))) → NestedToken w w out out₂ n at q a o e s i
 unfolding records
 nested-against {w} {n = n} {e = e} {s} {i} {k} {r} c j x =
     record {
       kept = kept-none n 12 12 2 4 w;
       few = omega (arith, x .0, c .few);
       sim = λ {t} {l} {st} y h u z m f.
-          let d : against k r ≡ verdict l (keep (active-nested s) st) y = j .is y h z m f in
+          let d : against k (r .0) ≡ verdict l (keep (active-nested s) st) y = j .is y h z m f in
           record {
             nests = rw (← d) (rw (append-nil st) f);
             wrote =
                 told-then (clash (owner l (y .bytes)) s i) (verdict-diags (verdict l (keep (active-nested s) st) y) s i) (c .sim y h z)
-                (same-told (wrote-diag k s i r (x .1)) (ap (λ (b : paper.Verdict). verdict-diags b s i) (sym d)));
+                (same-told (wrote-diag k s i (r .0) (x .1)) (ap (λ (b : paper.Verdict). verdict-diags b s i) (sym d)));
           };
     }
 
@@ -152,10 +159,10 @@ nested-recorded {w} {v} {n = n} {a = a} {o} {e} {s} {i} r h₁ c j x =
     }
 
 -- ---- a token of a `$e`, `$a` or `$p`
-pub seen-sense : {t w : List ℕ} {n : ℕ} {l : List Statement} {x : State} {a s : ℕ} {y : Token} {c : CheckedToken} → c ≡ checked-of (sense-word w n a s) a
+pub seen-sense : {t w : List ℕ} {n : ℕ} {l : List Statement} {x : State} {a s : ℕ} {y : Token} {c : CheckedToken} → Sensed w n a s c
     → Sees t w n l x a s y → sense-of c ≡ sense l (view x s) y
-seen-sense {w = w} {n} {x = x} {a} {s} {y} e h =
-    ap sense-of e ∙ sense-checked (sense-word w n a s) a ∙ sense-word-is x y (h .named) (h .nests) (h .atomic) (h .alike)
+seen-sense {l = l} {x} {a} {s} {y} e h =
+    ap sense-of (e .is x y (h .named) (h .nests) (h .atomic) (h .alike)) ∙ sense-checked (sense l (view x s) y) a
 
 floats-view : (x : State) (s : ℕ) (b : List ℕ) → float-of (keep (active-hyp s) (x .hyps)) b ≡ float-of (view x s .hyps) b
 unfolding view
@@ -165,7 +172,7 @@ pub seen-float : {w : List ℕ} {n : ℕ} {l : List Statement} {k a s : ℕ} {b 
     → float-at l (float-slot w n a s) ≡ float-of (view x s .hyps) b
 seen-float {s = s} {b} x y f = f .looks _ s (y .below) (le-refl s) ∙ rw (y .name) (floats-view x s b)
 
-pub eap-one : {w out out′ : List ℕ} {n at q a s i : ℕ} {c : CheckedToken} {f : Slot} → c ≡ checked-of (sense-word w n a s) a → f ≡ float-slot w n a s
+pub eap-one : {w out out′ : List ℕ} {n at q a s i : ℕ} {c : CheckedToken} {f : FloatSlot} → Sensed w n a s c → f ≡ float-slot w n a s
     → (q ≤ at + 18) × Wrote out out′ at q (gather diag-record (symbol-by (sense-of c) f s i)) → EapToken w out out′ n at q a s i
 eap-one {s = s} {i} {c} {f} e g r =
     record {
@@ -177,7 +184,7 @@ eap-one {s = s} {i} {c} {f} e g r =
     }
 
 -- ---- a token of a `$d`
-pub dv-one : {w v out out′ : List ℕ} {n at q a s i : ℕ} {c : CheckedToken} {k : Slot} → Room w n → a < n → c ≡ checked-of (sense-word w n a s) a
+pub dv-one : {w v out out′ : List ℕ} {n at q a s i : ℕ} {c : CheckedToken} {k : MarkSlot} → Room w n → a < n → Sensed w n a s c
     → (k ≡ mark-slot w n a) × (v ≡ marked-by (mark-slot w n a) w n a i)
     → (q ≤ at + 18) × Wrote out out′ at q (gather diag-record (disjoint-by (sense-of c) k s i)) → DvToken w v out out′ n at q a s i
 dv-one {w} {v} {n = n} {a = a} {s} {i} {c} {k} ro lt e g r =
@@ -194,39 +201,39 @@ dv-one {w} {v} {n = n} {a = a} {s} {i} {c} {k} ro lt e g r =
     }
 
 -- ---- a `$f`
-pub float-row : (w : List ℕ) (n a p r : ℕ) → float-slot w n a p ≡ At r → word w (symbol-cell n a 4) ≡ r + 1
+pub float-row : (w : List ℕ) (n a p : ℕ) (r : StatementRow) → float-slot w n a p ≡ floating.At r → word w (symbol-cell n a 4) ≡ r .0 + 1
 unfolding float-slot
 float-row w n a p r e =
     split (eqb (word w (symbol-cell n a 4)) 0)
-    (λ q. let z : Nothing ≡ At r = rw q at e in absurd (no-at z))
+    (λ q. let z : floating.Nothing ≡ floating.At r = rw q at e in absurd (no-at z))
     (λ q. let m : word w (symbol-cell n a 4) ≢ 0 = eqb-ne q in
     split (ltb p (word w (statement-cell (word w (symbol-cell n a 4) - 1) 7)))
-    (λ i. let z : At (word w (symbol-cell n a 4) - 1) ≡ At r = rw (q, i) at e in let y : word w (symbol-cell n a 4) - 1 ≡ r = cc in omega (arith, m))
-    (λ i. let z : Nothing ≡ At r = rw (q, i) at e in absurd (no-at z)))
+    (λ i. let z : floating.At (record { 0 = word w (symbol-cell n a 4) - 1 }) ≡ floating.At r = rw (q, i) at e in let y : _≡_ {A = StatementRow} (record { 0 = word w (symbol-cell n a 4) - 1 }) r = cc in omega (arith, m, ap (λ (b : StatementRow). b .0) y))
+    (λ i. let z : floating.Nothing ≡ floating.At r = rw (q, i) at e in absurd (no-at z)))
   where
-    no-at : Nothing ≡ At r → ⊥
+    no-at : floating.Nothing ≡ floating.At r → ⊥
     no-at z = let y : _≡_ {A = ℕ} 0 1 = cc in omega arith
 
 -- the earlier `$f`
-float-told : {t w : List ℕ} {n : ℕ} {l : List Statement} {k a s : ℕ} {b : List ℕ} {e : Slot} (x : State) → Named t w n l → Atomic l a b → k ≤ length l → Floats w n l (x .hyps) k s
+float-told : {t w : List ℕ} {n : ℕ} {l : List Statement} {k a s : ℕ} {b : List ℕ} {e : Earlier} (x : State) → Named t w n l → Atomic l a b → k ≤ length l → Floats w n l (x .hyps) k s
     → e ≡ earlier-slot w n a s → float-by e s ≡ float-diags (float-of (view x s .hyps) b) s
 unfolding earlier-slot
 float-told {w = w} {n} {l} {k} {a} {s} {b} {e} x h y g f p =
-    by-slot (float-slot w n a s)
+    by-float (float-slot w n a s)
     (λ r q.
-    let i : word w (symbol-cell n a 4) ≡ r + 1 = float-row w n a s r q in
-    let j : word w (statement-cell r 1) ≡ stmt l r .at = h .shape .at r (omega (arith, f .rows a (y .below))) in
-    let o : e ≡ At (stmt l r .at) = p ∙ rw (q, j) in
+    let i : word w (symbol-cell n a 4) ≡ r .0 + 1 = float-row w n a s r q in
+    let j : word w (statement-cell (r .0) 1) ≡ stmt l (r .0) .at = h .shape .at (r .0) (omega (arith, f .rows a (y .below))) in
+    let o : e ≡ earlier.At (record { 0 = stmt l (r .0) .at }) = p ∙ rw (q, j) in
     rw o (sym (ap (λ (z : Option Hyp). float-diags z s) (sym (seen-float x y f) ∙ ap (float-at l) q) ∙ float-at-is l r s)))
     (λ q.
-    let o : e ≡ Nothing = p ∙ rw q in
+    let o : e ≡ earlier.Nothing = p ∙ rw q in
     rw o (sym (ap (λ (z : Option Hyp). float-diags z s) (sym (seen-float x y f) ∙ ap (float-at l) q))))
 
 if-none-some : (d e : List Diag) → length d ≢ 0 → if-none d e ≡ d
 if-none-some [] e h = absurd (h refl)
 if-none-some (x ∷ d) e h = refl
 
-module _ {w out out₁ out₂ : List ℕ} {n at p q b a s : ℕ} {c d : CheckedToken} (ec : c ≡ checked-of (sense-word w n b s) b) (ed : d ≡ checked-of (sense-word w n a s) a)
+module _ {w out out₁ out₂ : List ℕ} {n at p q b a s : ℕ} {c d : CheckedToken} (ec : Sensed w n b s c) (ed : Sensed w n a s d)
     (x : (p ≤ at + 18) × Wrote out out₁ at p (gather diag-record (typecode-diags (sense-of c) s))) (y : (q ≤ p + 18) × Wrote out₁ out₂ p q (gather diag-record (variable-diags (sense-of d) s))) where
   two : {t : List ℕ} {l : List Statement} {st : State} (z : Statement) → z .at ≡ s → Sees t w n l st b s (token z 0) → Sees t w n l st a s (token z 1)
       → Wrote out out₂ at q (gather diag-record (typecode-diags (sense l (view st s) (token z 0)) (z .at) ++ variable-diags (sense l (view st s) (token z 1)) (z .at)))
@@ -248,7 +255,7 @@ module _ {w out out₁ out₂ : List ℕ} {n at p q b a s : ℕ} {c d : CheckedT
             same-told r (if-none-some ds _ (λ o. ne (omega (arith, r .place, told-length ds, o))));
       }
 
-  pub float-passed : {out₃ : List ℕ} {r : ℕ} {o : Slot} → q ≡ at → o ≡ earlier-slot w n a s → (r ≤ q + 18) × Wrote out₂ out₃ q r (gather diag-record (float-by o s)) → Float w out out₃ n at r b a s
+  pub float-passed : {out₃ : List ℕ} {r : ℕ} {o : Earlier} → q ≡ at → o ≡ earlier-slot w n a s → (r ≤ q + 18) × Wrote out₂ out₃ q r (gather diag-record (float-by o s)) → Float w out out₃ n at r b a s
   unfolding check-float
   float-passed {o = o} eq eo v =
       record {

@@ -19,10 +19,12 @@ use Rattle.stream.specs.Wrote.{Wrote}
 use Rattle.slots.specs.Kept.{Room, Kept}
 use Rattle.slots.specs.Slots.{float-slot, Nests, Floats, Atomic, Apart}
 use Rattle.slots.specs.Marks.{Marks}
-use Rattle.slots.specs.declared.Slot.{Slot}
-use Rattle.slots.specs.declared.Slot.the-variants.{At, Nothing}
+use Rattle.slots.specs.declared.FloatSlot.{FloatSlot}
+use Rattle.slots.specs.declared.FloatSlot.the-variants as floating
 use Rattle.checks.specs.Found.{verdict-is}
 use Rattle.checks.specs.declared.Verdict.{Verdict}
+use Rattle.checks.specs.declared.Earlier.{Earlier}
+use Rattle.checks.specs.declared.Earlier.the-variants as earlier
 
 pub record Can (w : List ℕ) (n at a : ℕ) : Type 0 where
   pub room : Room w n
@@ -95,11 +97,11 @@ pub record DvToken (w v out out′ : List ℕ) (n at q a s i : ℕ) : Type 0 whe
       → Apart l → Marks w n l d → length d ≡ i → DvOne t w v out out′ n at q l x d y m s i
 
 -- ---- the offset of a variable's active `$f`
-abbrev pub offset-of : List ℕ → Slot → Slot
-offset-of w (At r) = At (word w (statement-cell r 1))
-offset-of w Nothing = Nothing
+abbrev pub offset-of : List ℕ → FloatSlot → Earlier
+offset-of w (floating.At r) = earlier.At (record { 0 = word w (statement-cell (r .0) 1) })
+offset-of w floating.Nothing = earlier.Nothing
 
-unfoldable pub earlier-slot : List ℕ → ℕ → ℕ → ℕ → Slot
+unfoldable pub earlier-slot : List ℕ → ℕ → ℕ → ℕ → Earlier
 earlier-slot w n a s = offset-of w (float-slot w n a s)
 
 -- the two tokens of a `$f`: typecode b, variable a

@@ -1,10 +1,14 @@
 // Diagnostics written by what the look-ups found. Each function answers the place after what it wrote.
 // `s` is the statement's offset, `i` the token's index.
+use crate::Earlier;
+use nameck::lookup::Global;
+use nameck::lookup::Owner;
 use paper::StatementOffset;
 use paper::TokenIndex;
+use paper::TokenOffset;
 use slots::CheckedToken;
-use slots::Global;
-use slots::Slot;
+use slots::FloatSlot;
+use slots::MarkSlot;
 use stream::record::put_diag;
 ghost use Prim.Native.Nat.{_+_, _<_, _≤_, _^_};
 ghost use Rattle.paper.specs.Base.{gather};
@@ -14,46 +18,52 @@ ghost use Rattle.stream.specs.Wrote.{Wrote};
 ghost use Rattle.checks.specs.Found.{sense-of, label-by, clash-by, again, redeclared-by, float-by, missing-by, symbol-by, disjoint-by};
 
 /// Kind 1: another statement owns the label.
-pub fn put_label(out: &mut [u8], at: usize, owner: Slot, s: StatementOffset) -> usize
+pub fn put_label(out: &mut [u8], at: usize, owner: Owner, s: StatementOffset) -> usize
     requires { ⌜ at < 2 ^ 60 ⌝ }
     ensures { λ r. ⌜ (r ≤ at + 18) × Wrote (now (out .entry)) (now (out .exit)) at r (gather diag-record (label-by owner (s .0))) ⌝ }
 {
-    let Slot::At(o) = owner else {
+    let Owner::At(o) = owner else {
         return at;
     };
-    if o == s.0 {
+    if o.0 == s.0 {
         return at;
     }
-    put_diag(out, at, 1, s, TokenIndex(0), o)
+    put_diag(out, at, 1, s, TokenIndex(0), o.0)
 }
 
 /// Kind 5: a label of the same name.
-pub fn put_clash(out: &mut [u8], at: usize, owner: Slot, s: StatementOffset, i: TokenIndex) -> usize
+pub fn put_clash(
+    out: &mut [u8],
+    at: usize,
+    owner: Owner,
+    s: StatementOffset,
+    i: TokenIndex,
+) -> usize
     requires { ⌜ at < 2 ^ 60 ⌝ }
     ensures { λ r. ⌜ (r ≤ at + 18) × Wrote (now (out .entry)) (now (out .exit)) at r (gather diag-record (clash-by owner (s .0) (i .0))) ⌝ }
 {
-    let Slot::At(o) = owner else {
+    let Owner::At(o) = owner else {
         return at;
     };
-    put_diag(out, at, 5, s, i, o)
+    put_diag(out, at, 5, s, i, o.0)
 }
 
 /// Kind 6: the declaration at `p` is not that of the token at `offset`.
 pub fn put_again(
     out: &mut [u8],
     at: usize,
-    p: u32,
-    offset: u32,
+    p: TokenOffset,
+    offset: TokenOffset,
     s: StatementOffset,
     i: TokenIndex,
 ) -> usize
     requires { ⌜ at < 2 ^ 60 ⌝ }
-    ensures { λ r. ⌜ (r ≤ at + 18) × Wrote (now (out .entry)) (now (out .exit)) at r (gather diag-record (again p offset (s .0) (i .0))) ⌝ }
+    ensures { λ r. ⌜ (r ≤ at + 18) × Wrote (now (out .entry)) (now (out .exit)) at r (gather diag-record (again (p .0) (offset .0) (s .0) (i .0))) ⌝ }
 {
-    if p == offset {
+    if p.0 == offset.0 {
         return at;
     }
-    put_diag(out, at, 6, s, i, p)
+    put_diag(out, at, 6, s, i, p.0)
 }
 
 /// Kind 6 by the global declaration.
@@ -61,12 +71,12 @@ pub fn put_redeclared(
     out: &mut [u8],
     at: usize,
     g: Global,
-    offset: u32,
+    offset: TokenOffset,
     s: StatementOffset,
     i: TokenIndex,
 ) -> usize
     requires { ⌜ at < 2 ^ 60 ⌝ }
-    ensures { λ r. ⌜ (r ≤ at + 18) × Wrote (now (out .entry)) (now (out .exit)) at r (gather diag-record (redeclared-by g offset (s .0) (i .0))) ⌝ }
+    ensures { λ r. ⌜ (r ≤ at + 18) × Wrote (now (out .entry)) (now (out .exit)) at r (gather diag-record (redeclared-by g (offset .0) (s .0) (i .0))) ⌝ }
 {
     match g {
         Global::Constant(p) => put_again(out, at, p, offset, s, i),
@@ -100,22 +110,28 @@ pub fn put_variable(out: &mut [u8], at: usize, c: CheckedToken, s: StatementOffs
 }
 
 /// Kind 11: the offset of an earlier `$f`.
-pub fn put_float(out: &mut [u8], at: usize, earlier: Slot, s: StatementOffset) -> usize
+pub fn put_float(out: &mut [u8], at: usize, earlier: Earlier, s: StatementOffset) -> usize
     requires { ⌜ at < 2 ^ 60 ⌝ }
     ensures { λ r. ⌜ (r ≤ at + 18) × Wrote (now (out .entry)) (now (out .exit)) at r (gather diag-record (float-by earlier (s .0))) ⌝ }
 {
-    let Slot::At(o) = earlier else {
+    let Earlier::At(o) = earlier else {
         return at;
     };
-    put_diag(out, at, 11, s, TokenIndex(0), o)
+    put_diag(out, at, 11, s, TokenIndex(0), o.0)
 }
 
 /// Kind 4: a variable without a `$f`.
-pub fn put_missing(out: &mut [u8], at: usize, f: Slot, s: StatementOffset, i: TokenIndex) -> usize
+pub fn put_missing(
+    out: &mut [u8],
+    at: usize,
+    f: FloatSlot,
+    s: StatementOffset,
+    i: TokenIndex,
+) -> usize
     requires { ⌜ at < 2 ^ 60 ⌝ }
     ensures { λ r. ⌜ (r ≤ at + 18) × Wrote (now (out .entry)) (now (out .exit)) at r (gather diag-record (missing-by f (s .0) (i .0))) ⌝ }
 {
-    let Slot::At(_) = f else {
+    let FloatSlot::At(_) = f else {
         return put_diag(out, at, 4, s, i, 0);
     };
     at
@@ -126,7 +142,7 @@ pub fn put_symbol(
     out: &mut [u8],
     at: usize,
     c: CheckedToken,
-    f: Slot,
+    f: FloatSlot,
     s: StatementOffset,
     i: TokenIndex,
 ) -> usize
@@ -150,7 +166,7 @@ pub fn put_dv(
     out: &mut [u8],
     at: usize,
     c: CheckedToken,
-    k: Slot,
+    k: MarkSlot,
     s: StatementOffset,
     i: TokenIndex,
 ) -> usize
@@ -161,10 +177,10 @@ pub fn put_dv(
         CheckedToken::Inactive => put_diag(out, at, 2, s, i, 0),
         CheckedToken::Constant(_) => put_diag(out, at, 7, s, i, 0),
         CheckedToken::Variable(_) => {
-            let Slot::At(j) = k else {
+            let MarkSlot::At(j) = k else {
                 return at;
             };
-            put_diag(out, at, 8, s, i, j)
+            put_diag(out, at, 8, s, i, j.0)
         }
     }
 }

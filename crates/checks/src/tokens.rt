@@ -1,5 +1,6 @@
 // The check of one token, by its atom: look-ups, the diagnostics that they call for, and what is recorded.
 // `s` is the statement's offset, `i` the token's index; each function answers the place after its diagnostics.
+use crate::Earlier;
 use crate::Verdict;
 use crate::put::put_clash;
 use crate::put::put_dv;
@@ -9,15 +10,17 @@ use crate::put::put_redeclared;
 use crate::put::put_symbol;
 use crate::put::put_typecode;
 use crate::put::put_variable;
+use nameck::lookup::Global;
+use nameck::lookup::lookup_label;
+use nameck::lookup::lookup_symbol;
 use paper::Atom;
 use paper::StatementOffset;
 use paper::TokenIndex;
-use slots::Global;
-use slots::Slot;
+use paper::TokenOffset;
+use slots::FloatSlot;
+use slots::NestedSlot;
 use slots::cells::of_statement;
 use slots::look::check_math_symbol;
-use slots::look::global_of;
-use slots::look::label_owner;
 use slots::look::lookup_float;
 use slots::look::nested_of;
 use slots::look::record_nested;
@@ -42,7 +45,7 @@ pub fn check_label(
     requires { ⌜ Can (now work) n at (label .0) ⌝ }
     ensures { λ r. ⌜ Label (now (work .entry)) (now (diags .entry)) (now (diags .exit)) n at r (label .0) (s .0) ⌝ }
 {
-    let owner = label_owner(work, n, label);
+    let owner = lookup_label(work, n, label);
     put_label(diags, at, owner, s)
 }
 
@@ -59,7 +62,7 @@ pub fn check_clash(
     requires { ⌜ Can (now work) n at (atom .0) ⌝ }
     ensures { λ r. ⌜ Clashes (now (work .entry)) (now (diags .entry)) (now (diags .exit)) n at r (atom .0) (s .0) (i .0) ⌝ }
 {
-    let owner = label_owner(work, n, atom);
+    let owner = lookup_label(work, n, atom);
     put_clash(diags, at, owner, s, i)
 }
 
@@ -70,15 +73,15 @@ pub fn check_outer(
     diags: &mut [u8],
     at: usize,
     atom: Atom,
-    offset: u32,
+    offset: TokenOffset,
     s: StatementOffset,
     i: TokenIndex,
 ) -> usize
     requires { ⌜ Can (now work) n at (atom .0) ⌝ }
-    ensures { λ r. ⌜ Outer (now (work .entry)) (now (diags .entry)) (now (diags .exit)) n at r (atom .0) offset (s .0) (i .0) ⌝ }
+    ensures { λ r. ⌜ Outer (now (work .entry)) (now (diags .entry)) (now (diags .exit)) n at r (atom .0) (offset .0) (s .0) (i .0) ⌝ }
 {
     let after = check_clash(work, n, diags, at, atom, s, i);
-    let g = global_of(work, n, atom);
+    let g = lookup_symbol(work, n, atom);
     put_redeclared(diags, after, g, offset, s, i)
 }
 
@@ -87,26 +90,32 @@ pub fn by_known(work: &[u32], n: usize, atom: Atom, s: StatementOffset) -> Verdi
     requires { ⌜ Room (now work) n × (atom .0 < n) ⌝ }
     ensures { λ r. ⌜ r ≡ verdict-known (nested-slot (now (work .entry)) n (atom .0) (s .0)) ⌝ }
 {
-    let Slot::At(p) = nested_of(work, n, atom, s.0) else {
+    let NestedSlot::At(p) = nested_of(work, n, atom, s) else {
         return Verdict::Record;
     };
     Verdict::Against(6, p)
 }
 
 /// What stands against a nested `$v` token at `offset`.
-pub fn verdict_of(work: &[u32], n: usize, atom: Atom, offset: u32, s: StatementOffset) -> Verdict
+pub fn verdict_of(
+    work: &[u32],
+    n: usize,
+    atom: Atom,
+    offset: TokenOffset,
+    s: StatementOffset,
+) -> Verdict
     requires { ⌜ Room (now work) n × (atom .0 < n) ⌝ }
-    ensures { λ r. ⌜ Judged (now (work .entry)) n (atom .0) offset (s .0) r ⌝ }
+    ensures { λ r. ⌜ Judged (now (work .entry)) n (atom .0) (offset .0) (s .0) r ⌝ }
 {
-    match global_of(work, n, atom) {
+    match lookup_symbol(work, n, atom) {
         Global::Constant(g) => {
-            if g < offset {
+            if g.0 < offset.0 {
                 return Verdict::Against(6, g);
             }
             Verdict::Against(12, g)
         }
         Global::Variable(g) => {
-            if g < offset {
+            if g.0 < offset.0 {
                 return Verdict::Against(6, g);
             }
             by_known(work, n, atom, s)
@@ -122,17 +131,17 @@ pub fn check_nested(
     diags: &mut [u8],
     at: usize,
     atom: Atom,
-    offset: u32,
+    offset: TokenOffset,
     end: u32,
     s: StatementOffset,
     i: TokenIndex,
 ) -> usize
     requires { ⌜ Can (now work) n at (atom .0) ⌝ }
-    ensures { λ r. ⌜ NestedToken (now (work .entry)) (now (work .exit)) (now (diags .entry)) (now (diags .exit)) n at r (atom .0) offset end (s .0) (i .0) ⌝ }
+    ensures { λ r. ⌜ NestedToken (now (work .entry)) (now (work .exit)) (now (diags .entry)) (now (diags .exit)) n at r (atom .0) (offset .0) end (s .0) (i .0) ⌝ }
 {
     let after = check_clash(work, n, diags, at, atom, s, i);
     match verdict_of(work, n, atom, offset, s) {
-        Verdict::Against(k, o) => put_diag(diags, after, k, s, i, o),
+        Verdict::Against(k, o) => put_diag(diags, after, k, s, i, o.0),
         Verdict::Record => {
             record_nested(work, n, atom, offset, end);
             after
@@ -153,8 +162,8 @@ pub fn check_eap_token(
     requires { ⌜ Can (now work) n at (atom .0) × HasFloat (now work) n (atom .0) ⌝ }
     ensures { λ r. ⌜ EapToken (now (work .entry)) (now (diags .entry)) (now (diags .exit)) n at r (atom .0) (s .0) (i .0) ⌝ }
 {
-    let c = check_math_symbol(work, n, atom, s.0);
-    let f = lookup_float(work, n, atom, s.0);
+    let c = check_math_symbol(work, n, atom, s);
+    let f = lookup_float(work, n, atom, s);
     put_symbol(diags, at, c, f, s, i)
 }
 
@@ -171,20 +180,21 @@ pub fn check_dv_token(
     requires { ⌜ Can (now work) n at (atom .0) × (i .0 < 16777217) ⌝ }
     ensures { λ r. ⌜ DvToken (now (work .entry)) (now (work .exit)) (now (diags .entry)) (now (diags .exit)) n at r (atom .0) (s .0) (i .0) ⌝ }
 {
-    let c = check_math_symbol(work, n, atom, s.0);
+    let c = check_math_symbol(work, n, atom, s);
     let k = see(work, n, atom, i);
     put_dv(diags, at, c, k, s, i)
 }
 
 /// The offset of the `$f` of a variable that is active at `s`.
-pub fn earlier_float(work: &[u32], n: usize, atom: Atom, s: StatementOffset) -> Slot
+pub fn earlier_float(work: &[u32], n: usize, atom: Atom, s: StatementOffset) -> Earlier
     requires { ⌜ Room (now work) n × (atom .0 < n) × HasFloat (now work) n (atom .0) ⌝ }
     ensures { λ r. ⌜ r ≡ earlier-slot (now (work .entry)) n (atom .0) (s .0) ⌝ }
 {
-    let Slot::At(row) = lookup_float(work, n, atom, s.0) else {
-        return Slot::Nothing;
+    let FloatSlot::At(row) = lookup_float(work, n, atom, s) else {
+        return Earlier::Nothing;
     };
-    Slot::At(of_statement(work, n, row as usize, area::AT))
+    let at = of_statement(work, n, row.0 as usize, area::AT);
+    Earlier::At(StatementOffset(at))
 }
 
 /// A `$f` after its label: token 0, token 1; if both pass, an earlier `$f` of the variable.
@@ -200,8 +210,8 @@ pub fn check_float(
     requires { ⌜ Can (now work) n at (typecode .0) × Can (now work) n at (variable .0) × HasFloat (now work) n (variable .0) ⌝ }
     ensures { λ r. ⌜ Float (now (work .entry)) (now (diags .entry)) (now (diags .exit)) n at r (typecode .0) (variable .0) (s .0) ⌝ }
 {
-    let b = check_math_symbol(work, n, typecode, s.0);
-    let c = check_math_symbol(work, n, variable, s.0);
+    let b = check_math_symbol(work, n, typecode, s);
+    let c = check_math_symbol(work, n, variable, s);
     let p = put_typecode(diags, at, b, s);
     let q = put_variable(diags, p, c, s);
     if q != at {

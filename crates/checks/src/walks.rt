@@ -7,6 +7,7 @@ use crate::tokens::check_outer;
 use paper::Atom;
 use paper::StatementOffset;
 use paper::TokenIndex;
+use paper::TokenOffset;
 use reader::comment::Visible;
 use reader::comment::next_visible;
 use slots::cells::of_math;
@@ -101,7 +102,7 @@ pub fn walk_outer(
         match next_visible(&classes, part, c) {
             Visible::Token(x) => {
                 let atom = Atom(of_math(work, n, first + i));
-                let offset = from + x.start as u32;
+                let offset = TokenOffset(from + x.start as u32);
                 p = check_outer(work, n, diags, p, atom, offset, s, TokenIndex(i as u32));
                 i += 1;
                 c = x.stop;
@@ -135,18 +136,9 @@ pub fn walk_nested(
         match next_visible(&classes, part, c) {
             Visible::Token(x) => {
                 let atom = Atom(of_math(work, n, first + i));
-                let offset = from + x.start as u32;
-                p = check_nested(
-                    work,
-                    n,
-                    diags,
-                    p,
-                    atom,
-                    offset,
-                    end,
-                    s,
-                    TokenIndex(i as u32),
-                );
+                let offset = TokenOffset(from + x.start as u32);
+                let index = TokenIndex(i as u32);
+                p = check_nested(work, n, diags, p, atom, offset, end, s, index);
                 i += 1;
                 c = x.stop;
             }

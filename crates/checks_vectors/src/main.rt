@@ -6,7 +6,8 @@ use stream::walk::u16_at;
 use stream::write::put_u16;
 ghost use Prim.Native.Nat.{_<_, _≤_};
 ghost use lib.ListN.{length};
-ghost use Rattle.checks_vectors.specs.Diagnosed.{Diagnosed, Read};
+ghost use Rattle.fold.specs.Start.{Read};
+ghost use Rattle.checks_vectors.specs.Diagnosed.{Diagnosed};
 
 pub enum Diagnosis {
     Refused,
@@ -18,10 +19,8 @@ fn diagnose_read(text: &[u8], work: &mut [u32], diags: &mut [u8], rows: usize) -
     requires { ⌜ Read (now text) (now work) rows ⌝ }
     ensures { λ r. ⌜ Diagnosed (now (text .entry)) (now (work .entry)) rows (now (diags .entry)) (now (diags .exit)) r ⌝ }
 {
-    let counted = token::count::count(text);
-    let n = counted.tokens + 1;
-    let names = nameck::naming::name_all(text, work, n, rows);
-    let st = scopeck::fold::scope_check_all(text, work, n, diags, rows, names);
+    let at = fold::start::start(text, work, rows);
+    let st = scopeck::fold::scope_check_all(text, work, at.n, diags, rows, at.names);
     st.diags
 }
 

@@ -30,23 +30,23 @@ nothing : (x : Option Declared) (u : ℕ) → u ≡ global-word x → u ≡ 0 �
 nothing none u e z = refl
 nothing (some d) u e z = by (d .constant) e
   where
-    by : (b : Bool) → u ≡ 2 * d .at + choose b 1 2 → g.Nothing ≡ choose b (g.Constant (d .at)) (g.Variable (d .at))
+    by : (b : Bool) → u ≡ 2 * d .at + choose b 1 2 → g.Nothing ≡ choose b (g.Constant (record { 0 = d .at })) (g.Variable (record { 0 = d .at }))
     by true k = absurd (omega arith)
     by false k = absurd (omega arith)
 
-constant : (x : Option Declared) (u : ℕ) → u ≡ global-word x → (u ≡ 0 → ⊥) → u % 2 ≡ 1 → g.Constant (u / 2) ≡ global-answer x
+constant : (x : Option Declared) (u : ℕ) → u ≡ global-word x → (u ≡ 0 → ⊥) → u % 2 ≡ 1 → g.Constant (record { 0 = u / 2 }) ≡ global-answer x
 constant none u e z m = absurd (z e)
 constant (some d) u e z m = by (d .constant) e
   where
-    by : (b : Bool) → u ≡ 2 * d .at + choose b 1 2 → g.Constant (u / 2) ≡ choose b (g.Constant (d .at)) (g.Variable (d .at))
+    by : (b : Bool) → u ≡ 2 * d .at + choose b 1 2 → g.Constant (record { 0 = u / 2 }) ≡ choose b (g.Constant (record { 0 = d .at })) (g.Variable (record { 0 = d .at }))
     by true k = let q : u / 2 ≡ d .at = omega arith in rw q
     by false k = absurd (omega arith)
 
-variable : (x : Option Declared) (u : ℕ) → u ≡ global-word x → (u ≡ 0 → ⊥) → (u % 2 ≡ 1 → ⊥) → g.Variable (u / 2 - 1) ≡ global-answer x
+variable : (x : Option Declared) (u : ℕ) → u ≡ global-word x → (u ≡ 0 → ⊥) → (u % 2 ≡ 1 → ⊥) → g.Variable (record { 0 = u / 2 - 1 }) ≡ global-answer x
 variable none u e z m = absurd (z e)
 variable (some d) u e z m = by (d .constant) e
   where
-    by : (b : Bool) → u ≡ 2 * d .at + choose b 1 2 → g.Variable (u / 2 - 1) ≡ choose b (g.Constant (d .at)) (g.Variable (d .at))
+    by : (b : Bool) → u ≡ 2 * d .at + choose b 1 2 → g.Variable (record { 0 = u / 2 - 1 }) ≡ choose b (g.Constant (record { 0 = d .at })) (g.Variable (record { 0 = d .at }))
     by true k = absurd (m (omega arith))
     by false k = let q : u / 2 - 1 ≡ d .at = omega arith in rw q
 
@@ -65,10 +65,10 @@ module _ {w : List ℕ} {n a i : ℕ} (p : i ≡ symbol-cell n a 1) where
   unfolding word
   declared-none z = record { is = λ {t} {l} h k. nothing (global l (name-of l a)) (getD w i 0) (ap (λ j. getD w j 0) p ∙ h .declares a k) z }
 
-  pub declared-constant : (getD w i 0 ≡ 0 → ⊥) → getD w i 0 % 2 ≡ 1 → DeclaredBy w n a (g.Constant (getD w i 0 / 2))
+  pub declared-constant : (getD w i 0 ≡ 0 → ⊥) → getD w i 0 % 2 ≡ 1 → DeclaredBy w n a (g.Constant (record { 0 = getD w i 0 / 2 }))
   unfolding word
   declared-constant z m = record { is = λ {t} {l} h k. constant (global l (name-of l a)) (getD w i 0) (ap (λ j. getD w j 0) p ∙ h .declares a k) z m }
 
-  pub declared-variable : (getD w i 0 ≡ 0 → ⊥) → (getD w i 0 % 2 ≡ 1 → ⊥) → DeclaredBy w n a (g.Variable (getD w i 0 / 2 - 1))
+  pub declared-variable : (getD w i 0 ≡ 0 → ⊥) → (getD w i 0 % 2 ≡ 1 → ⊥) → DeclaredBy w n a (g.Variable (record { 0 = getD w i 0 / 2 - 1 }))
   unfolding word
   declared-variable z m = record { is = λ {t} {l} h k. variable (global l (name-of l a)) (getD w i 0) (ap (λ j. getD w j 0) p ∙ h .declares a k) z m }

@@ -10,7 +10,7 @@ use lib.ListN.{length, getD, take, drop, length-append, take-append-drop}
 use lib.Seq.{take-suc, drop-cons, take-length, length-take-le}
 use Rattle.paper.specs.Tokens.{Token}
 use Rattle.paper.specs.Statements.{Statement}
-use Rattle.paper.specs.Names.{declares, declared}
+use Rattle.paper.specs.Names.{declares}
 use Rattle.paper.specs.Checks.{token, no-token}
 use Rattle.paper.proofs.Gather.{map-append}
 use Rattle.area.specs.Cells.{statement-cell, word}

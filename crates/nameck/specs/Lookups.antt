@@ -22,7 +22,7 @@ owner-answer (some x) = o.At (record { 0 = x .at })
 
 abbrev pub global-answer : Option Declared → Global
 global-answer none = g.Nothing
-global-answer (some d) = choose (d .constant) (g.Constant (d .at)) (g.Variable (d .at))
+global-answer (some d) = choose (d .constant) (g.Constant (record { 0 = d .at })) (g.Variable (record { 0 = d .at }))
 
 -- the symbol's row lies in the work area
 pub record HasSymbol (w : List ℕ) (n a : ℕ) : Type 0 where

@@ -2,6 +2,7 @@
 // The answers have numbers only.
 use paper::Atom;
 use paper::StatementOffset;
+use paper::TokenOffset;
 ghost use Rattle.nameck.specs.Lookups.{HasSymbol, Owned, DeclaredBy};
 
 /// The first bearer of a label, or nobody.
@@ -12,8 +13,8 @@ pub enum Owner {
 
 /// A global declaration: a `$c` or a `$v` token with this offset, or nothing.
 pub enum Global {
-    Constant(u32),
-    Variable(u32),
+    Constant(TokenOffset),
+    Variable(TokenOffset),
     Nothing,
 }
 
@@ -39,8 +40,8 @@ pub fn lookup_symbol(work: &[u32], n: usize, atom: Atom) -> Global
         return Global::Nothing;
     }
     if g % 2 == 1 {
-        Global::Constant(g / 2)
+        Global::Constant(TokenOffset(g / 2))
     } else {
-        Global::Variable(g / 2 - 1)
+        Global::Variable(TokenOffset(g / 2 - 1))
     }
 }

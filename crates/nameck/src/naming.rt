@@ -2,6 +2,7 @@
 // tokens are global declarations. The math string of a statement goes in as a part of the text.
 use crate::intern::intern;
 use paper::Atom;
+use paper::TokenOffset;
 use token::cursor::Cursor;
 ghost use mathlib.Core.Path.{_≡_};
 ghost use Prim.Native.Nat.{_+_, _*_, _<_, _≤_};
@@ -21,15 +22,15 @@ pub fn note(work: &mut [u32], cell: usize, value: u32)
 }
 
 /// Notes a token of an outermost `$c` (kind 1) or `$v` (kind 2): the first of its name is the global declaration.
-pub fn note_global(work: &mut [u32], n: usize, atom: Atom, kind: u32, at: usize)
-    requires { ⌜ (n < 4294967296) × (atom .0 < n) × (16 * n ≤ length (now work)) × (kind ≤ 2) × (at < 16777216) ⌝ }
-    ensures { λ r. ⌜ now (work .exit) ≡ globally kind (now (work .entry)) n (atom .0) at ⌝ }
+pub fn note_global(work: &mut [u32], n: usize, atom: Atom, kind: u32, at: TokenOffset)
+    requires { ⌜ (n < 4294967296) × (atom .0 < n) × (16 * n ≤ length (now work)) × (kind ≤ 2) × (at .0 < 16777216) ⌝ }
+    ensures { λ r. ⌜ now (work .exit) ≡ globally kind (now (work .entry)) n (atom .0) (at .0) ⌝ }
 {
     if kind != 0 {
         note(
             work,
             area::symbol(n, atom.0 as usize, area::GLOBAL),
-            2 * (at as u32) + kind,
+            2 * at.0 + kind,
         );
     }
 }
@@ -75,7 +76,7 @@ pub fn name_token(
     let got = intern(text, work, n, names, at, stop);
     work[area::math(n, row)] = got.atom.0;
     let k = got.names;
-    note_global(work, n, got.atom, kind, at);
+    note_global(work, n, got.atom, kind, TokenOffset(at as u32));
     k
 }
 

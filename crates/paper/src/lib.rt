@@ -1,4 +1,4 @@
-// The types that the definitions and the code share: three kinds of number, and the answers.
+// The types that the definitions and the code share: four kinds of number, and the answers.
 // `specs/Answer.antt` gives document 01's number, place and lengths for each case of an answer.
 
 /// A distinct name, numbered by first sight.
@@ -6,6 +6,9 @@ pub struct Atom(pub u32);
 
 /// The byte offset of a statement's first token.
 pub struct StatementOffset(pub u32);
+
+/// The byte offset of a math token.
+pub struct TokenOffset(pub u32);
 
 /// The place of a math token in its statement, from 0.
 pub struct TokenIndex(pub u32);

@@ -33,7 +33,7 @@ and-none : (w : Bool) → and w false ≡ false
 and-none true = refl
 and-none false = refl
 
-and-both : (a b : Bool) → and a b ≡ true → (a ≡ true) × (b ≡ true)
+pub and-both : (a b : Bool) → and a b ≡ true → (a ≡ true) × (b ≡ true)
 and-both true b e = (refl, e)
 and-both false b e = absurd (clash (sym e))
 

@@ -1,4 +1,6 @@
 pub mod Passes
+pub mod Dollars
+pub mod Hops
 pub mod Runs
 pub mod Stores
 pub mod Keeping
@@ -7,4 +9,3 @@ pub mod Bodies
 pub mod Items
 pub mod Backs
 pub mod Wholes
-pub mod Dollars

@@ -3,13 +3,15 @@
 use mathlib.Core.Path.{_≡_, refl, sym, _∙_}
 use mathlib.Core.Bool.{Bool, true, false}
 use mathlib.Core.List.{List, [], _∷_, _++_}
+use mathlib.Core.Logic.{_⊎_, inl, inr}
+use denote.Enum.Declared.{tagOf}
 use Prim.Native.Nat.{ℕ, _+_, _-_, _<_, zero-le}
 use native.Mathlib.Nat.{le-refl, not-suc-le-zero}
 use native.Mathlib.Omega.{arith}
 use lib.Dec.{leb, ltb}
 use lib.ListN.{length, getD, take, drop, set, length-append, length-drop, List·getD-append}
 use lib.Seq.{getD-at, length-take-le}
-use borrow.Author.Tests.{le-leb, lt-leb, ltb-true, ltb-false}
+use borrow.Author.Tests.{le-leb, lt-leb, leb-true, ltb-true, ltb-false}
 use Rattle.paper.specs.Base.{and, all}
 use Rattle.paper.specs.Tokens.{math-token}
 use Rattle.paper.specs.Comments.{outside}
@@ -21,7 +23,12 @@ use Rattle.token.specs.Words.{tokens-from, token-of, Spans}
 use Rattle.token.specs.declared.cursor.Span.{Span}
 use Rattle.reader.specs.Rows.{Stands}
 use Rattle.reader.specs.Passed.{Shows}
-use Rattle.reader.specs.Runs.{RunRoom, Running, Proving}
+use Rattle.reader.specs.Hops.{Hopped}
+use Rattle.reader.specs.Runs.{RunRoom, Running, Proving, math-next}
+use Rattle.reader.specs.declared.comment.Visible.{Visible}
+use Rattle.reader.specs.declared.comment.Visible.the-variants as vis
+use Rattle.reader.proofs.comment.Visible.{the-type}
+use Rattle.reader.proofs.Dollars.{and-both}
 use Rattle.reader.proofs.Passes.{passed-none, passed-then, passed-few, passed-shows}
 
 -- a span of the text stands there as a token
@@ -38,10 +45,14 @@ stands-span {t} {x} h =
       within = omega (arith, l, h .some, h .within);
     }
 
+all-join : {A : Type 0} (f : A → Bool) (l m : List A) → all f l ≡ true → all f m ≡ true → all f (l ++ m) ≡ true
+unfolding all
+all-join f [] m h e = e
+all-join f (y ∷ l) m h e = split (f y) (λ q. rw q (all-join f l m (rw q at h) e)) (λ q. let z : false ≡ true = rw q at h in cc)
+
 all-snoc : {A : Type 0} (f : A → Bool) (l : List A) (x : A) → all f l ≡ true → f x ≡ true → all f (l ++ (x ∷ [])) ≡ true
 unfolding all
-all-snoc f [] x h e = rw e
-all-snoc f (y ∷ l) x h e = split (f y) (λ q. rw q (all-snoc f l x (rw q at h) e)) (λ q. let z : false ≡ true = rw q at h in cc)
+all-snoc f l x h e = all-join f l (x ∷ []) h (rw e)
 
 -- what holds at each of a list's entries and of one more
 snoc-each : {A : Type 0} (d : A) (P : ℕ → A → Type 0) (l : List A) (x : A) → ((k : ℕ) → k < length l → P k (getD l k d)) → P (length l) x
@@ -76,9 +87,11 @@ pub running-fits : {t w v : List ℕ} {n at most first stop count : ℕ} {x : Sp
 running-fits r h s = omega (arith, r .few, h .counted, passed-few (h .passed), passed-few (passed-shows s))
 
 module _ {t w v u : List ℕ} {n at most first stop count : ℕ} {x : Span} (r : RunRoom t w n at first) (h : Running t w v n at most first stop count) (s : Shows t stop x) where
-  pub running-more : leb 3 (x .least) ≡ true → count < most → u ≡ set v (math-cell n (first + count)) (x .start)
+  pub running-more : and (leb 3 (x .least)) (ltb count most) ≡ true → u ≡ set v (math-cell n (first + count)) (x .start)
       → Running t w u n at most first (x .stop) (count + 1)
-  running-more e l q =
+  running-more b q =
+      let e : leb 3 (x .least) ≡ true = and-both (leb 3 (x .least)) (ltb count most) b .0 in
+      let l : count < most = ltb-true count most (and-both (leb 3 (x .least)) (ltb count most) b .1) in
       let room : math-cell n (first + count) < length v = omega (arith, running-fits r h s, r .room, h .only .len) in
       let len : length (h .ms) ≡ count = h .counted in
       record {
@@ -111,9 +124,28 @@ proving-more {t} {at} {stop} {count} {x} h s e =
       maths = all-snoc math-token (h .ps) (token-of t x) (h .maths) (sym (s .whole .math) ∙ e);
     }
 
--- ---- what ends a run: no math token, or enough of them
+-- further, over math tokens
+pub proving-on : {t : List ℕ} {at stop s : ℕ} → Proving t at stop 1 → Hopped t stop s → Proving t at s 1
+proving-on {t} {at} {stop} {s} h y =
+    record {
+      ps = h .ps ++ y .ps;
+      passed = passed-then (h .passed) (y .passed);
+      some = sym (le-leb 1 (length (h .ps ++ y .ps)) (omega (arith, length-append (h .ps) (y .ps), leb-true 1 (length (h .ps)) (sym (h .some)))));
+      maths = all-join math-token (h .ps) (y .ps) (h .maths) (y .maths);
+    }
+
+-- ---- what ends a run: no token, no math token, or enough of them
+pub not-token : (t : List ℕ) (v : Visible) → (tagOf the-type v ≡ 1) ⊎ (tagOf the-type v ≡ 2) → math-next t v ≡ false
+not-token t (vis.Token x) (inl e) = absurd (omega (arith, e))
+not-token t (vis.Token x) (inr e) = absurd (omega (arith, e))
+not-token t (vis.Open p) e = refl
+not-token t vis.End e = refl
+
 pub not-math : {t : List ℕ} {stop : ℕ} {x : Span} → Shows t stop x → x .least < 3 → math-token (token-of t x) ≡ false
 not-math {t} {stop} {x} s l = sym (s .whole .math) ∙ lt-leb 3 (x .least) l
+
+pub not-taken : {t : List ℕ} {stop : ℕ} {x : Span} (b : Bool) → Shows t stop x → and (leb 3 (x .least)) b ≡ false → and (math-token (token-of t x)) b ≡ false
+not-taken b s e = rw (← s .whole .math) e
 
 pub and-left : (a b : Bool) → a ≡ false → and a b ≡ false
 and-left a b e = rw e

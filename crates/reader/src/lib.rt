@@ -13,6 +13,7 @@ pub mod comment;
 pub mod end;
 pub mod item;
 pub mod kind;
+pub mod proof;
 pub mod run;
 pub mod state;
 pub mod whole;

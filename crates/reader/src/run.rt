@@ -1,4 +1,4 @@
-// Runs of math tokens: those of a math string, kept in the math column, and those of a proof, passed over; and what closes them.
+// Runs of math tokens: those of a math string, kept in the math column; and what closes a run.
 // A run takes the comments in it along.
 use crate::comment::Visible;
 use crate::comment::next_visible;
@@ -8,10 +8,12 @@ use token::cursor::Span;
 use token::cursor::is_key;
 ghost use mathlib.Core.Path.{_≡_};
 ghost use mathlib.Core.List.{[], _∷_};
+ghost use lib.Dec.{leb, ltb};
 ghost use lib.ListN.{getD};
+ghost use Rattle.paper.specs.Base.{and};
 ghost use Rattle.token.specs.Class.{classes};
 ghost use Rattle.reader.specs.Passed.{Seen};
-ghost use Rattle.reader.specs.Runs.{RunRoom, Ran, Proved, closing-of};
+ghost use Rattle.reader.specs.Runs.{RunRoom, Ran, closing-of};
 
 /// A run of math tokens: how many, the place after the last, and what stands next.
 pub struct Run {
@@ -24,6 +26,16 @@ pub struct Run {
 pub enum Closing {
     At(Span),
     Refused(Refusal),
+}
+
+/// Whether a token goes on with a run that has `count` of at most `most` tokens.
+pub fn takes(x: Span, count: usize, most: usize) -> bool
+    ensures { λ r. ⌜ r ≡ and (leb 3 (x .least)) (ltb count most) ⌝ }
+{
+    if x.least < 3 {
+        return false;
+    }
+    count < most
 }
 
 /// The longest run of at most `most` math tokens from `at` on; their offsets stand in the math column from `first` on.
@@ -42,72 +54,25 @@ pub fn read_run(
     let mut stop = at;
     let mut count: usize = 0;
     loop {
-        match next_visible(table, text, stop) {
-            Visible::End => return Run {
+        let after = next_visible(table, text, stop);
+        let Visible::Token(x) = after else {
+            return Run {
                 count: count,
                 stop: stop,
-                after: Visible::End,
-            },
-            Visible::Open(p) => return Run {
+                after: after,
+            };
+        };
+        if !takes(x, count, most) {
+            return Run {
                 count: count,
                 stop: stop,
-                after: Visible::Open(p),
-            },
-            Visible::Token(x) => {
-                if x.least < 3 {
-                    return Run {
-                        count: count,
-                        stop: stop,
-                        after: Visible::Token(x),
-                    };
-                }
-                if most <= count {
-                    return Run {
-                        count: count,
-                        stop: stop,
-                        after: Visible::Token(x),
-                    };
-                }
-                let cell = math(n, first + count);
-                work[cell] = x.start as u32;
-                count += 1;
-                stop = x.stop;
-            }
+                after: after,
+            };
         }
-    }
-}
-
-/// The longest run of math tokens from `at` on, counted only as none (0) or some (1).
-pub fn read_proof(table: &[u8; 256], text: &[u8], at: usize) -> Run
-    requires { ⌜ now table ≡ classes ⌝ }
-    ensures { λ r. ⌜ Proved (now (text .entry)) at r ⌝ }
-{
-    let mut stop = at;
-    let mut some: usize = 0;
-    loop {
-        match next_visible(table, text, stop) {
-            Visible::End => return Run {
-                count: some,
-                stop: stop,
-                after: Visible::End,
-            },
-            Visible::Open(p) => return Run {
-                count: some,
-                stop: stop,
-                after: Visible::Open(p),
-            },
-            Visible::Token(x) => {
-                if x.least < 3 {
-                    return Run {
-                        count: some,
-                        stop: stop,
-                        after: Visible::Token(x),
-                    };
-                }
-                some = 1;
-                stop = x.stop;
-            }
-        }
+        let cell = math(n, first + count);
+        work[cell] = x.start as u32;
+        count += 1;
+        stop = x.stop;
     }
 }
 

@@ -1,6 +1,6 @@
 // Runs the reader over recorded texts and writes what it finds: number and place, or statements and math tokens, then every word
-// of the work area that is not 0. Standard input has the cases one after the other: u16 length of the text, u16 words of the work
-// area, and the text; what a case leaves in the work area is there when the next begins. `make.py` wrote them, and `stdout`.
+// of the work area that is not 0. The file `cases` of `data/` has them one after the other: u16 length of the text, u16 words of the
+// work area, and the text; what a case leaves in the work area is there when the next begins. `make.py` wrote it, and `stdout`.
 use paper::Reading;
 use paper::Refusal;
 use stream::walk::u16_at;
@@ -90,8 +90,10 @@ fn run(cases: &[u8], work: &mut [u32]) {
 }
 
 fn main() {
+    let fd = os::open_read(b"cases");
     let mut input = io::large_buffer();
-    let n = io::read_full(0, &mut input);
+    let n = io::read_full(fd, &mut input);
+    libc::close(fd);
     let mut work = [7u32; 65536];
     run(&input[..n], &mut work);
 }

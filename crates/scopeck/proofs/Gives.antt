@@ -21,13 +21,14 @@ use Rattle.paper.proofs.Tests.{split}
 use Rattle.reader.specs.Rows.{stmt}
 use Rattle.paper.specs.declared.Atom.{Atom}
 use Rattle.nameck.specs.Atoms.{atoms}
+use Rattle.nameck.specs.Lookups.{owner-answer, Owned}
+use Rattle.nameck.specs.declared.lookup.Owner as label
 use Rattle.facts.specs.States.{state-at, view-at, given-at}
 use Rattle.facts.proofs.States.{state-next}
 use Rattle.history.specs.Accepted.{no-diags, accepted, is-essential, is-disjoint, rows-of}
 use Rattle.history.proofs.Active.{rows-next}
 use Rattle.stream.specs.Wrote.{Wrote}
 use Rattle.slots.specs.Kept.{Kept}
-use Rattle.slots.specs.Slots.{owner-of}
 use Rattle.slots.specs.Marks.{Marks}
 use Rattle.slots.specs.Stack.{Stack}
 use Rattle.slots.proofs.Kept.{kept-wide}
@@ -36,8 +37,9 @@ use Rattle.slots.proofs.Stacks.{stack-kept, stack-next}
 use Rattle.checks.proofs.Found.{told-length, none-told}
 use Rattle.checks.proofs.Ones.{same-told}
 use Rattle.scopeck.specs.declared.Scope.{Scope}
+use Rattle.scopeck.specs.declared.Owner.{Owner}
 use Rattle.scopeck.specs.declared.Owner.the-variants as own
-use Rattle.scopeck.specs.Scope.{own-by, moved, Ready, Given}
+use Rattle.scopeck.specs.Scope.{own-by, Owns, moved, Ready, Given}
 use Rattle.scopeck.proofs.Ready.{row-room}
 
 -- ---- the definitions' shapes
@@ -77,7 +79,10 @@ pub told-nothing : {out out′ : List ℕ} {at p : ℕ} (d : List Diag) → Wrot
 told-nothing d w h = none-told d (omega (arith, w .place, told-length d))
 
 -- ---- owners
-pub owns-none : (o : Option Token) (z : Statement) (a : ℕ) → own.Nothing ≡ own-by (owner-of o) (z .at) a → length (label-diags o z) ≢ 0
+pub owns-by : {w : List ℕ} {n a s : ℕ} {o : label.Owner} {r : Owner} → Owned w n a o → r ≡ own-by o s a → Owns w n a s r
+owns-by {a = a} {s} x e = record { is = λ h k. e ∙ ap (λ (b : label.Owner). own-by b s a) (x .is h k) }
+
+pub owns-none : (o : Option Token) (z : Statement) (a : ℕ) → own.Nothing ≡ own-by (owner-answer o) (z .at) a → length (label-diags o z) ≢ 0
 owns-none none z a e = absurd (no e)
   where
     no : own.Nothing ≡ own.Own (record { 0 = a }) → ⊥
@@ -88,7 +93,7 @@ owns-none (some b) z a e =
     no : own.Nothing ≡ own.Own (record { 0 = a }) → ⊥
     no e = let y : _≡_ {A = ℕ} 0 1 = cc in omega arith
 
-pub owns-some : (o : Option Token) (z : Statement) (a : ℕ) {x : Atom} → own.Own x ≡ own-by (owner-of o) (z .at) a → label-diags o z ≡ []
+pub owns-some : (o : Option Token) (z : Statement) (a : ℕ) {x : Atom} → own.Own x ≡ own-by (owner-answer o) (z .at) a → label-diags o z ≡ []
 owns-some none z a e = refl
 owns-some (some b) z a {x} e =
     split (eqb (b .at) (z .at)) (λ q. rw q) (λ q. absurd (no (rw q at e)))

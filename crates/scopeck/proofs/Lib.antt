@@ -1,4 +1,6 @@
 pub mod Ready
 pub mod Gives
-pub mod ByKind
+pub mod Unlabelled
+pub mod Labelled
+pub mod Floating
 pub mod Whole

@@ -7,16 +7,19 @@ use lib.Dec.{eqb}
 use lib.ListN.{length, take, drop}
 use Rattle.paper.specs.Base.{choose, gather}
 use Rattle.paper.specs.Statements.{Statement}
+use Rattle.paper.specs.Names.{owner}
 use Rattle.paper.specs.Records.{diag-record}
 use Rattle.area.specs.Cells.{statement-cell, symbol-cell, word}
 use Rattle.reader.specs.Rows.{stmt}
 use Rattle.facts.specs.Facts.{Facts}
 use Rattle.facts.specs.States.{state-at, given-at}
 use Rattle.history.specs.Accepted.{is-essential, is-disjoint, rows-of}
+use Rattle.nameck.specs.Atoms.{atoms, name-of}
 use Rattle.nameck.specs.Named.{Named}
+use Rattle.nameck.specs.Lookups.{owner-answer}
+use Rattle.nameck.specs.declared.lookup.Owner as label
+use Rattle.nameck.specs.declared.lookup.Owner.the-variants as label-case
 use Rattle.stream.specs.Wrote.{Wrote}
-use Rattle.slots.specs.declared.Slot.{Slot}
-use Rattle.slots.specs.declared.Slot.the-variants.{At, Nothing}
 use Rattle.slots.specs.Kept.{Room, Kept}
 use Rattle.slots.specs.Slots.{Nests, Floats}
 use Rattle.slots.specs.Marks.{Marks}
@@ -24,7 +27,7 @@ use Rattle.slots.specs.Stack.{Stack}
 use Rattle.scopeck.specs.declared.Scope.{Scope}
 use Rattle.scopeck.specs.declared.Row.{Row}
 use Rattle.scopeck.specs.declared.Owner.{Owner}
-use Rattle.scopeck.specs.declared.Owner.the-variants as owner
+use Rattle.scopeck.specs.declared.Owner.the-variants as own
 
 -- ---- the words of a statement's row
 abbrev pub row-of : List ℕ → ℕ → Row
@@ -41,10 +44,15 @@ unfoldable pub part-of : List ℕ → List ℕ → ℕ → List ℕ
 part-of t w k =
     take (word w (statement-cell k 4) - word w (statement-cell k 3)) (drop (word w (statement-cell k 3)) t)
 
--- whether a statement at s owns its label a
-abbrev pub own-by : Slot → ℕ → ℕ → Owner
-own-by (At o) s a = choose (eqb o s) (owner.Own (record { 0 = a })) owner.Nothing
-own-by Nothing s a = owner.Own (record { 0 = a })
+-- whether a statement at s owns its label a, by the label's owner
+abbrev pub own-by : label.Owner → ℕ → ℕ → Owner
+own-by (label-case.At o) s a = choose (eqb (o .0) s) (own.Own (record { 0 = a })) own.Nothing
+own-by label-case.Nobody s a = own.Own (record { 0 = a })
+
+pub record Owns (w : List ℕ) (n a s : ℕ) (r : Owner) : Type 0 where
+  pub is :
+      {t : List ℕ} {l : List Statement} → Named t w n l → a < length (atoms l)
+      → r ≡ own-by (owner-answer (owner l (name-of l a))) s a
 
 -- the state with another place in the diagnostics, and with one more `$e` or `$d`
 abbrev pub moved : Scope → ℕ → Scope

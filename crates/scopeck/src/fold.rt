@@ -7,6 +7,7 @@ use crate::kinds::scope_check_dv;
 use crate::kinds::scope_check_essential;
 use crate::kinds::scope_check_float;
 use crate::kinds::scope_check_variable;
+use paper::StatementOffset;
 use slots::cells::of_statement;
 use slots::cells::put_statement;
 use slots::cells::put_symbol;
@@ -91,7 +92,7 @@ pub fn check_statement(
     requires { ⌜ SomeBefore (now text) (now work) n st row ⌝ }
     ensures { λ r. ⌜ Steps (now (text .entry)) (now (work .entry)) (now (work .exit)) (now (diags .entry)) (now (diags .exit)) n st r row ⌝ }
 {
-    let here = of_statement(work, n, row, area::AT);
+    let here = StatementOffset(of_statement(work, n, row, area::AT));
     let es = still_active(work, n, area::ESS, st.es, here);
     let ds = still_active(work, n, area::DIS, st.ds, here);
     let next = check_kind(

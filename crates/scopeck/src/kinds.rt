@@ -13,6 +13,7 @@ use checks::walks::walk_nested;
 use checks::walks::walk_outer;
 use paper::Atom;
 use paper::TokenIndex;
+use slots::StatementRow;
 use slots::cells::of_math;
 use slots::cells::of_statement;
 use slots::look::record_float;
@@ -109,7 +110,7 @@ pub fn scope_check_float(
     if st.diags != p {
         return move_to(st, p);
     }
-    record_float(work, n, variable, row);
+    record_float(work, n, variable, StatementRow(row as u32));
     move_to(st, p)
 }
 

@@ -2,16 +2,14 @@
 use crate::Owner;
 use crate::Row;
 use crate::Scope;
+use nameck::lookup;
 use paper::Atom;
 use paper::StatementOffset;
-use slots::Slot;
 use slots::cells::of_statement;
-use slots::look::label_owner;
 ghost use mathlib.Core.Path.{_≡_};
 ghost use Prim.Native.Nat.{_+_, _*_, _<_, _≤_};
 ghost use Rattle.slots.specs.Kept.{Room};
-ghost use Rattle.slots.specs.Slots.{owner-slot};
-ghost use Rattle.scopeck.specs.Scope.{row-of, own-by, moved};
+ghost use Rattle.scopeck.specs.Scope.{row-of, Owns, moved};
 
 /// The words of a statement's row.
 pub fn read_row(work: &[u32], n: usize, row: usize) -> Row
@@ -33,12 +31,12 @@ pub fn read_row(work: &[u32], n: usize, row: usize) -> Row
 /// The label of the statement at `s`, if that is the first to bear it.
 pub fn check_label_dup(work: &[u32], n: usize, label: Atom, s: StatementOffset) -> Owner
     requires { ⌜ Room (now work) n × (label .0 < n) ⌝ }
-    ensures { λ r. ⌜ r ≡ own-by (owner-slot (now (work .entry)) n (label .0)) (s .0) (label .0) ⌝ }
+    ensures { λ r. ⌜ Owns (now (work .entry)) n (label .0) (s .0) r ⌝ }
 {
-    let Slot::At(o) = label_owner(work, n, label) else {
+    let lookup::Owner::At(o) = lookup::lookup_label(work, n, label) else {
         return Owner::Own(label);
     };
-    if o == s.0 {
+    if o.0 == s.0 {
         return Owner::Own(label);
     }
     Owner::Nothing

@@ -19,41 +19,42 @@ use Rattle.paper.proofs.Tests.{split, eqb-ne, same-refl, eq-same, ne-same}
 use Rattle.area.specs.Cells.{symbol-cell, math-cell, word}
 use Rattle.area.proofs.Laws.{word-same, word-other}
 use Rattle.nameck.specs.Atoms.{atoms, name-of}
-use Rattle.slots.specs.declared.Slot.{Slot}
-use Rattle.slots.specs.declared.Slot.the-variants.{At, Nothing}
+use Rattle.paper.specs.declared.TokenIndex.{TokenIndex}
+use Rattle.slots.specs.declared.MarkSlot.{MarkSlot}
+use Rattle.slots.specs.declared.MarkSlot.the-variants.{At, Nothing}
 use Rattle.slots.specs.Kept.{Room, Kept}
 use Rattle.slots.specs.Slots.{Atomic, Apart}
 use Rattle.slots.specs.Marks.{first-in, mark-slot, marked-by, repeat-diags, Marks, Left, Forgot}
 use Rattle.slots.proofs.Kept.{kept-none, kept-then, kept-symbol}
 
--- by cases on a slot, with what it says
-pub by-slot : {P : Type 0} (s : Slot) → ((p : ℕ) → s ≡ At p → P) → (s ≡ Nothing → P) → P
-by-slot (At p) f g = f p refl
-by-slot Nothing f g = g refl
+-- by cases on a mark, with what it says
+by-mark : {P : Type 0} (s : MarkSlot) → ((p : TokenIndex) → s ≡ At p → P) → (s ≡ Nothing → P) → P
+by-mark (At p) f g = f p refl
+by-mark Nothing f g = g refl
 
-no-at : {j : ℕ} → Nothing ≡ At j → ⊥
+no-at : {j : TokenIndex} → Nothing ≡ At j → ⊥
 no-at z = let y : _≡_ {A = ℕ} 0 1 = cc in omega arith
 
 -- ---- one token more at the end
-abbrev or-slot : Slot → Slot → Slot
+abbrev or-slot : MarkSlot → MarkSlot → MarkSlot
 or-slot (At j) f = At j
 or-slot Nothing f = f
 
-or-nothing : (f : Slot) → or-slot f Nothing ≡ f
+or-nothing : (f : MarkSlot) → or-slot f Nothing ≡ f
 or-nothing (At j) = refl
 or-nothing Nothing = refl
 
-first-snoc : (d : List Token) (t : Token) (x : List ℕ) (k : ℕ) → first-in (d ++ (t ∷ [])) x k ≡ or-slot (first-in d x k) (choose (sameb (t .bytes) x) (At (k + length d)) Nothing)
+first-snoc : (d : List Token) (t : Token) (x : List ℕ) (k : ℕ) → first-in (d ++ (t ∷ [])) x k ≡ or-slot (first-in d x k) (choose (sameb (t .bytes) x) (At (record { 0 = k + length d })) Nothing)
 unfolding first-in
 first-snoc [] t x k = rw add-zero
 first-snoc (y ∷ d) t x k =
     split (sameb (y .bytes) x) (λ q. rw q) (λ q. rw (q, add-suc, ← suc-add) (first-snoc d t x (suc k)))
 
 module _ (d : List Token) (t : Token) (x : List ℕ) where
-  first-kept : (j : ℕ) → first-in d x 0 ≡ At j → first-in (d ++ (t ∷ [])) x 0 ≡ first-in d x 0
+  first-kept : (j : TokenIndex) → first-in d x 0 ≡ At j → first-in (d ++ (t ∷ [])) x 0 ≡ first-in d x 0
   first-kept j e = first-snoc d t x 0 ∙ rw e
 
-  first-new : t .bytes ≡ x → first-in d x 0 ≡ Nothing → first-in (d ++ (t ∷ [])) x 0 ≡ At (length d)
+  first-new : t .bytes ≡ x → first-in d x 0 ≡ Nothing → first-in (d ++ (t ∷ [])) x 0 ≡ At (record { 0 = length d })
   first-new q e =
       let z : 0 + length d ≡ length d = omega arith in
       first-snoc d t x 0 ∙ rw (e, eq-same _ _ q, z)
@@ -63,7 +64,7 @@ module _ (d : List Token) (t : Token) (x : List ℕ) where
 
 -- ---- a mark that was set, and the others
 module _ (w : List ℕ) (n a i : ℕ) (r : Room w n) (h : a < n) where
-  mark-same : mark-slot (set w (symbol-cell n a 6) (i + 1)) n a ≡ At i
+  mark-same : mark-slot (set w (symbol-cell n a 6) (i + 1)) n a ≡ At (record { 0 = i })
   unfolding mark-slot
   mark-same =
       let e : i + 1 - 1 ≡ i = omega arith in
@@ -73,7 +74,7 @@ module _ (w : List ℕ) (n a i : ℕ) (r : Room w n) (h : a < n) where
   unfolding mark-slot
   mark-other b d = rw (word-other w (symbol-cell n a 6) (symbol-cell n b 6) (i + 1) (λ q. omega (arith, q, d)))
 
-  pub kept-mark : (s : Slot) → Kept n 12 12 6 7 w (marked-by s w n a i)
+  pub kept-mark : (s : MarkSlot) → Kept n 12 12 6 7 w (marked-by s w n a i)
   kept-mark (At j) = kept-none n 12 12 6 7 w
   kept-mark Nothing = kept-symbol n 6 7 w a 6 (i + 1) h (omega arith) (omega arith) (omega arith)
 
@@ -84,7 +85,7 @@ marks-see {w} {n} {l} {d} {a} t r f u y k =
     let here : mark-slot w n a ≡ first-in d (t .bytes) 0 = k .sees a (y .below) ∙ rw (y .name) in
     let other : (b : ℕ) → b < length (atoms l) → eqb b a ≡ false → first-in (d ++ (t ∷ [])) (name-of l b) 0 ≡ first-in d (name-of l b) 0 =
     λ b g q. first-other d t (name-of l b) (λ e. eqb-ne q (u .apart b a g (y .below) (sym e ∙ sym (y .name)))) in
-    by-slot (mark-slot w n a)
+    by-mark (mark-slot w n a)
     (λ j e. rw e
     (record {
       sees = λ b g.
@@ -125,7 +126,7 @@ mark-zero : (w : List ℕ) (n a : ℕ) → mark-slot w n a ≡ Nothing → word 
 unfolding mark-slot
 mark-zero w n a e =
     split (eqb (word w (symbol-cell n a 6)) 0) (λ q. eqb-true _ _ q)
-    (λ q. let z : At (word w (symbol-cell n a 6) - 1) ≡ Nothing = rw q at e in absurd (no-at (sym z)))
+    (λ q. let z : At (record { 0 = word w (symbol-cell n a 6) - 1 }) ≡ Nothing = rw q at e in absurd (no-at (sym z)))
 
 pub marks-left : {w : List ℕ} {n : ℕ} {l : List Statement} {d : List Token} (f : ℕ) → Marks w n l d
     → ((j : ℕ) → j < length d → Atomic l (word w (math-cell n (f + j))) (getD d j no-token .bytes)) → Apart l → Left w w n f (length d) (length (atoms l)) 0
@@ -141,12 +142,12 @@ unfolding mark-slot
 marks-kept f same k = record { sees = λ a h. rw (same a (omega arith)) (k .sees a h) }
 
 -- ---- a repeat: the mark is the definition's first index among all tokens, of which d are those before the i-th
-first-index-old : (d m : List Token) (x : List ℕ) (k j : ℕ) → first-in d x k ≡ At j → (first-index (d ++ m) x + k ≡ j) × (j < k + length d)
+first-index-old : (d m : List Token) (x : List ℕ) (k j : ℕ) → first-in d x k ≡ At (record { 0 = j }) → (first-index (d ++ m) x + k ≡ j) × (j < k + length d)
 unfolding first-in first-index
 first-index-old [] m x k j e = absurd (no-at e)
 first-index-old (t ∷ d) m x k j e =
     split (sameb (t .bytes) x)
-    (λ q. let z : At k ≡ At j = rw q at e in let i : k ≡ j = cc in rw q (omega arith, omega arith))
+    (λ q. let z : At (record { 0 = k }) ≡ At (record { 0 = j }) = rw q at e in let y : _≡_ {A = TokenIndex} (record { 0 = k }) (record { 0 = j }) = cc in let i : k ≡ j = ap (λ (b : TokenIndex). b .0) y in rw q (omega arith, omega arith))
     (λ q. let r = first-index-old d m x (suc k) j (rw q at e) in rw q (omega (arith, r .0), omega (arith, r .1)))
 
 first-index-new : (d m : List Token) (t : Token) (k : ℕ) → first-in d (t .bytes) k ≡ Nothing → first-index (d ++ (t ∷ m)) (t .bytes) ≡ length d
@@ -154,17 +155,17 @@ unfolding first-in first-index
 first-index-new [] m t k e = rw (same-refl (t .bytes))
 first-index-new (y ∷ d) m t k e =
     split (sameb (y .bytes) (t .bytes))
-    (λ q. let z : At k ≡ Nothing = rw q at e in absurd (no-at (sym z)))
+    (λ q. let z : At (record { 0 = k }) ≡ Nothing = rw q at e in absurd (no-at (sym z)))
     (λ q. rw q (ap suc (first-index-new d m t (suc k) (rw q at e))))
 
 pub repeat-is : (d m : List Token) (t : Token) (s i : ℕ) → length d ≡ i
     → repeat-diags (first-in d (t .bytes) 0) s i ≡ disjoint-diags variable (first-index (d ++ (t ∷ m)) (t .bytes)) s i
 repeat-is d m t s i e =
-    by-slot (first-in d (t .bytes) 0)
+    by-mark (first-in d (t .bytes) 0)
     (λ j f.
-    let r = first-index-old d (t ∷ m) (t .bytes) 0 j f in
-    let z : first-index (d ++ (t ∷ m)) (t .bytes) ≡ j = omega (arith, r .0) in
-    rw (f, z, lt-ltb j i (omega (arith, r .1))))
+    let r = first-index-old d (t ∷ m) (t .bytes) 0 (j .0) f in
+    let z : first-index (d ++ (t ∷ m)) (t .bytes) ≡ j .0 = omega (arith, r .0) in
+    rw (f, z, lt-ltb (j .0) i (omega (arith, r .1))))
     (λ f. let z : first-index (d ++ (t ∷ m)) (t .bytes) ≡ i = first-index-new d m t 0 f ∙ e in rw (f, z, le-ltb i i (omega arith)))
 
 -- ---- the marks taken away one after the other
@@ -209,6 +210,6 @@ pub mark-nothing : (w : List ℕ) (n a : ℕ) → word w (symbol-cell n a 6) ≡
 unfolding mark-slot
 mark-nothing w n a e = rw e
 
-pub mark-at : (w : List ℕ) (n a : ℕ) {k : ℕ} → k ≡ word w (symbol-cell n a 6) → k ≢ 0 → mark-slot w n a ≡ At (k - 1)
+pub mark-at : (w : List ℕ) (n a : ℕ) {k : ℕ} → k ≡ word w (symbol-cell n a 6) → k ≢ 0 → mark-slot w n a ≡ At (record { 0 = k - 1 })
 unfolding mark-slot
 mark-at w n a {k} e d = rw (← e, ne-eqb k 0 d)

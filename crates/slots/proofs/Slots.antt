@@ -20,7 +20,10 @@ use Rattle.area.specs.Cells.{statement-cell, symbol-cell, word}
 use Rattle.area.proofs.Laws.{word-same, word-other}
 use Rattle.reader.specs.Rows.{stmt}
 use Rattle.nameck.specs.Atoms.{atoms, name-of}
-use Rattle.slots.specs.declared.Slot.the-variants.{At, Nothing}
+use Rattle.slots.specs.declared.NestedSlot.the-variants as nested
+use Rattle.slots.specs.declared.StatementRow.{StatementRow}
+use Rattle.slots.specs.declared.FloatSlot.{FloatSlot}
+use Rattle.slots.specs.declared.FloatSlot.the-variants as floating
 use Rattle.slots.specs.Kept.{Room, Kept}
 use Rattle.slots.specs.Slots.{nested-slot, nested-at, float-slot, float-hyp, float-at, with-nested, with-float, Nests, Floats, Atomic, Apart}
 use Rattle.slots.proofs.Kept.{kept-symbol, kept-then}
@@ -73,7 +76,7 @@ module _ (w : List ℕ) (n a o e : ℕ) (r : Room w n) (h : a < n) where
       kept-then (kept-symbol n 2 4 w a 2 o h (omega arith) (omega arith) (omega arith))
       (kept-symbol n 2 4 (set w (symbol-cell n a 2) o) a 3 e h (omega arith) (omega arith) (omega arith))
 
-  nested-same : (p : ℕ) → nested-slot (with-nested w n a o e) n a p ≡ choose (ltb p e) (At o) Nothing
+  nested-same : (p : ℕ) → nested-slot (with-nested w n a o e) n a p ≡ choose (ltb p e) (nested.At (record { 0 = o })) nested.Nothing
   unfolding nested-slot with-nested
   nested-same p =
       rw (
@@ -137,6 +140,11 @@ unfolding nested-slot nested-of keep latest
 nests-none w n l z = record { looks = λ a p h m. rw (z a h, le-ltb p 0 (omega arith)) }
 
 -- ---- `$f`
+-- by cases on its slot, with what it says
+pub by-float : {P : Type 0} (s : FloatSlot) → ((r : StatementRow) → s ≡ floating.At r → P) → (s ≡ floating.Nothing → P) → P
+by-float (floating.At r) f g = f r refl
+by-float floating.Nothing f g = g refl
+
 hyp-ends : (x : Hyp) (o q : ℕ) → o ≤ q → active-hyp o x ≡ false → active-hyp q x ≡ false
 hyp-ends x o q h e = le-ltb q (hyp-end x) (omega (arith, ltb-false o (hyp-end x) e))
 
@@ -145,7 +153,7 @@ module _ (w : List ℕ) (n a k : ℕ) (r : Room w n) (h : a < n) where
   unfolding with-float
   kept-float = kept-symbol n 4 5 w a 4 (k + 1) h (omega arith) (omega arith) (omega arith)
 
-  float-same : (e p : ℕ) → 3 * k + 3 ≤ n → word w (statement-cell k 7) ≡ e → float-slot (with-float w n a k) n a p ≡ choose (ltb p e) (At k) Nothing
+  float-same : (e p : ℕ) → 3 * k + 3 ≤ n → word w (statement-cell k 7) ≡ e → float-slot (with-float w n a k) n a p ≡ choose (ltb p e) (floating.At (record { 0 = k })) floating.Nothing
   unfolding float-slot with-float
   float-same e p g d =
       let i : (k + 1) - 1 ≡ k = omega arith in
@@ -174,7 +182,7 @@ module _ (w : List ℕ) (n a k : ℕ) (r : Room w n) (h : a < n) where
       let m : word w (symbol-cell n b 4) ≢ 0 = eqb-ne z in
       rw (word-of-other b d, z, kept-float .low (word w (symbol-cell n b 4) - 1) 7 (omega (arith, m)) (omega arith) (omega arith)))
 
-float-ends : (l : List Statement) (k q : ℕ) → float-at l (choose (ltb q (stmt l k .end)) (At k) Nothing) ≡ choose (active-hyp q (float-hyp l k)) (some (float-hyp l k)) none
+float-ends : (l : List Statement) (k q : ℕ) → float-at l (choose (ltb q (stmt l k .end)) (floating.At (record { 0 = k })) floating.Nothing) ≡ choose (active-hyp q (float-hyp l k)) (some (float-hyp l k)) none
 unfolding float-hyp
 float-ends l k q = split (ltb q (stmt l k .end)) (λ t. rw t) (λ t. rw t)
 

@@ -12,26 +12,26 @@ use Rattle.paper.specs.Statements.{Statement}
 use Rattle.paper.specs.Checks.{Diag, diag}
 use Rattle.area.specs.Cells.{symbol-cell, math-cell, word}
 use Rattle.nameck.specs.Atoms.{atoms, name-of}
-use Rattle.slots.specs.declared.Slot.{Slot}
-use Rattle.slots.specs.declared.Slot.the-variants.{At, Nothing}
+use Rattle.slots.specs.declared.MarkSlot.{MarkSlot}
+use Rattle.slots.specs.declared.MarkSlot.the-variants.{At, Nothing}
 use Rattle.slots.specs.Kept.{Kept}
 
 -- the index of the first token of a name among some, of which the first has index k
-unfoldable pub first-in : List Token → List ℕ → ℕ → Slot
+unfoldable pub first-in : List Token → List ℕ → ℕ → MarkSlot
 first-in [] x k = Nothing
-first-in (t ∷ l) x k = let r = first-in l x (suc k) in choose (sameb (t .bytes) x) (At k) r
+first-in (t ∷ l) x k = let r = first-in l x (suc k) in choose (sameb (t .bytes) x) (At (record { 0 = k })) r
 
-unfoldable pub mark-slot : List ℕ → ℕ → ℕ → Slot
-mark-slot w n a = choose (eqb (word w (symbol-cell n a 6)) 0) Nothing (At (word w (symbol-cell n a 6) - 1))
+unfoldable pub mark-slot : List ℕ → ℕ → ℕ → MarkSlot
+mark-slot w n a = choose (eqb (word w (symbol-cell n a 6)) 0) Nothing (At (record { 0 = word w (symbol-cell n a 6) - 1 }))
 
 -- the words with a mark, if there was none
-abbrev pub marked-by : Slot → List ℕ → ℕ → ℕ → ℕ → List ℕ
+abbrev pub marked-by : MarkSlot → List ℕ → ℕ → ℕ → ℕ → List ℕ
 marked-by (At j) w n a i = w
 marked-by Nothing w n a i = set w (symbol-cell n a 6) (i + 1)
 
 -- the diagnostic of a variable in a `$d`, by the first token of its name before it
-abbrev pub repeat-diags : Slot → ℕ → ℕ → List Diag
-repeat-diags (At j) s i = diag 8 s i j
+abbrev pub repeat-diags : MarkSlot → ℕ → ℕ → List Diag
+repeat-diags (At j) s i = diag 8 s i (j .0)
 repeat-diags Nothing s i = []
 
 -- the marks are those of the tokens d

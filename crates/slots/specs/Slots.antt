@@ -1,88 +1,65 @@
--- What the words of a name answer at an offset: its owner, its global declaration, the nested `$v` and the `$f` recorded
--- last, what it is; and that the slots answer as the recorded lists do.
+-- What the words of a name answer at an offset: the nested `$v` and the `$f` recorded last, and what it is; and that the
+-- slots answer as the recorded lists do.
 use mathlib.Core.Path.{_≡_}
 use mathlib.Core.List.{List}
 use mathlib.Core.Option.{Option, none, some}
-use Prim.Native.Nat.{ℕ, _+_, _-_, _/_, _%_, _<_, _≤_}
+use Prim.Native.Nat.{ℕ, _+_, _-_, _<_, _≤_}
 use lib.Dec.{eqb, ltb}
 use lib.ListN.{length, set}
 use Rattle.paper.specs.Base.{choose, keep}
 use Rattle.paper.specs.Tokens.{Token}
 use Rattle.paper.specs.Statements.{Statement}
-use Rattle.paper.specs.Names.{Declared}
-use Rattle.paper.specs.State.{Nested, Hyp, float, active-nested, active-hyp, nested-of, float-of, Sense, inactive, constant, variable}
+use Rattle.paper.specs.Names.{Declared, global}
+use Rattle.paper.specs.State.{Nested, Hyp, float, State, active-nested, active-hyp, nested-of, float-of, view, Sense, inactive, constant, variable, sense}
 use Rattle.paper.specs.Checks.{token}
 use Rattle.area.specs.Cells.{statement-cell, symbol-cell, word}
 use Rattle.reader.specs.Rows.{stmt}
 use Rattle.nameck.specs.Atoms.{atoms, name-of}
-use Rattle.slots.specs.declared.Slot.{Slot}
-use Rattle.slots.specs.declared.Slot.the-variants.{At, Nothing}
-use Rattle.slots.specs.declared.Global.{Global}
-use Rattle.slots.specs.declared.Global.the-variants as global
+use Rattle.nameck.specs.Named.{Named}
+use Rattle.nameck.specs.declared.lookup.Global.{Global}
+use Rattle.nameck.specs.declared.lookup.Global.the-variants as g
+use Rattle.slots.specs.declared.NestedSlot.{NestedSlot}
+use Rattle.slots.specs.declared.NestedSlot.the-variants as nested
+use Rattle.slots.specs.declared.FloatSlot.{FloatSlot}
+use Rattle.slots.specs.declared.FloatSlot.the-variants as floating
 use Rattle.slots.specs.declared.CheckedToken.{CheckedToken}
 use Rattle.slots.specs.declared.CheckedToken.the-variants as checked
 
--- ---- the owner of a label, as a word and as the definition has it
-unfoldable pub owner-slot : List ℕ → ℕ → ℕ → Slot
-owner-slot w n a =
-    choose (eqb (word w (symbol-cell n a 0)) 0) Nothing (At (word w (symbol-cell n a 0) - 1))
-
-abbrev pub owner-of : Option Token → Slot
-owner-of none = Nothing
-owner-of (some b) = At (b .at)
-
--- ---- the global declaration
-abbrev pub global-by : ℕ → Global
-global-by g =
-    choose (eqb g 0) global.Nothing
-    (choose (eqb (g % 2) 1) (global.Constant ((g - 1) / 2)) (global.Variable ((g - 1) / 2)))
-
-unfoldable pub global-slot : List ℕ → ℕ → ℕ → Global
-global-slot w n a = global-by (word w (symbol-cell n a 1))
-
-abbrev pub global-of : Option Declared → Global
-global-of none = global.Nothing
-global-of (some g) = choose (g .constant) (global.Constant (g .at)) (global.Variable (g .at))
-
 -- ---- the nested `$v` recorded last, if it is active at p
-unfoldable pub nested-slot : List ℕ → ℕ → ℕ → ℕ → Slot
+unfoldable pub nested-slot : List ℕ → ℕ → ℕ → ℕ → NestedSlot
 nested-slot w n a p =
-    choose (ltb p (word w (symbol-cell n a 3))) (At (word w (symbol-cell n a 2))) Nothing
+    choose (ltb p (word w (symbol-cell n a 3))) (nested.At (record { 0 = word w (symbol-cell n a 2) })) nested.Nothing
 
-abbrev pub nested-at : Option Nested → Slot
-nested-at none = Nothing
-nested-at (some x) = At (x .at)
+abbrev pub nested-at : Option Nested → NestedSlot
+nested-at none = nested.Nothing
+nested-at (some x) = nested.At (record { 0 = x .at })
 
 -- ---- the row of the `$f` recorded last, if it is active at p
-unfoldable pub float-slot : List ℕ → ℕ → ℕ → ℕ → Slot
+unfoldable pub float-slot : List ℕ → ℕ → ℕ → ℕ → FloatSlot
 float-slot w n a p =
-    choose (eqb (word w (symbol-cell n a 4)) 0) Nothing
+    choose (eqb (word w (symbol-cell n a 4)) 0) floating.Nothing
     (choose (ltb p (word w (statement-cell (word w (symbol-cell n a 4) - 1) 7)))
-    (At (word w (symbol-cell n a 4) - 1))
-    Nothing)
+    (floating.At (record { 0 = word w (symbol-cell n a 4) - 1 }))
+    floating.Nothing)
 
 -- what an accepted `$f` records, by its row
 unfoldable pub float-hyp : List Statement → ℕ → Hyp
 float-hyp l r =
     float (stmt l r .at) (stmt l r .end) (token (stmt l r) 1 .bytes) (token (stmt l r) 0 .bytes)
 
-abbrev pub float-at : List Statement → Slot → Option Hyp
-float-at l (At r) = some (float-hyp l r)
-float-at l Nothing = none
+abbrev pub float-at : List Statement → FloatSlot → Option Hyp
+float-at l (floating.At r) = some (float-hyp l (r .0))
+float-at l floating.Nothing = none
 
 -- ---- what a name is, by its global declaration and its nested `$v`
-abbrev pub sense-nested : Slot → Sense
-sense-nested (At p) = variable
-sense-nested Nothing = inactive
+abbrev pub sense-nested : NestedSlot → Sense
+sense-nested (nested.At p) = variable
+sense-nested nested.Nothing = inactive
 
-abbrev pub sense-global : Global → ℕ → Slot → Sense
-sense-global (global.Constant g) o s = choose (ltb g o) constant (sense-nested s)
-sense-global (global.Variable g) o s = choose (ltb g o) variable (sense-nested s)
-sense-global global.Nothing o s = sense-nested s
-
--- what the name of atom a is at a statement with offset o
-unfoldable pub sense-word : List ℕ → ℕ → ℕ → ℕ → Sense
-sense-word w n a o = sense-global (global-slot w n a) o (nested-slot w n a o)
+abbrev pub sense-global : Global → ℕ → NestedSlot → Sense
+sense-global (g.Constant p) o s = choose (ltb (p .0) o) constant (sense-nested s)
+sense-global (g.Variable p) o s = choose (ltb (p .0) o) variable (sense-nested s)
+sense-global g.Nothing o s = sense-nested s
 
 -- the code's word for it
 abbrev pub checked-of : Sense → ℕ → CheckedToken
@@ -117,3 +94,10 @@ pub record Atomic (l : List Statement) (a : ℕ) (x : List ℕ) : Type 0 where
 
 pub record Apart (l : List Statement) : Type 0 where
   pub apart : (a b : ℕ) → a < length (atoms l) → b < length (atoms l) → name-of l a ≡ name-of l b → a ≡ b
+
+-- ---- what the token y of atom a is at a statement with offset o, if that serves as well as its own offset
+pub record Sensed (w : List ℕ) (n a o : ℕ) (r : CheckedToken) : Type 0 where
+  pub is :
+      {t : List ℕ} {l : List Statement} (x : State) (y : Token) → Named t w n l → Nests w n l (x .nested) o
+      → Atomic l a (y .bytes) → ((d : Declared) → global l (y .bytes) ≡ some d → ltb (d .at) (y .at) ≡ ltb (d .at) o)
+      → r ≡ checked-of (sense l (view x o) y) a

@@ -1,26 +1,38 @@
 // Words against state: one slot for each name, the stacks of active `$e` and `$d`, and the marks of a `$d`.
 // Every function here promises an equation over the words of the work area; the laws say what the words stand for.
+use paper::Atom;
+use paper::TokenIndex;
+use paper::TokenOffset;
+
 pub mod cells;
 pub mod look;
 pub mod mark;
 pub mod stack;
 
-/// What a slot holds, or nothing.
-pub enum Slot {
-    At(u32),
+/// The row of a statement in the work area.
+pub struct StatementRow(pub u32);
+
+/// The nested `$v` token of a name, or nothing.
+pub enum NestedSlot {
+    At(TokenOffset),
     Nothing,
 }
 
-/// A global declaration, with the offset of the declaring token.
-pub enum Global {
-    Constant(u32),
-    Variable(u32),
+/// The `$f` of a name, by its row, or nothing.
+pub enum FloatSlot {
+    At(StatementRow),
+    Nothing,
+}
+
+/// The first token of a name in the `$d` in hand, or nothing.
+pub enum MarkSlot {
+    At(TokenIndex),
     Nothing,
 }
 
 /// What a math token is where it stands.
 pub enum CheckedToken {
     Inactive,
-    Constant(paper::Atom),
-    Variable(paper::Atom),
+    Constant(Atom),
+    Variable(Atom),
 }

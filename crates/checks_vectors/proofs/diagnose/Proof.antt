@@ -1,6 +1,6 @@
 use mathlib.Core.Path.{_≡_, refl, sym, ap, _∙_}
 use native.Mathlib.Omega.{arith}
-use Rattle.checks_vectors.proofs.Joined.{read-held}
+use Rattle.fold.proofs.Starts.{read-held}
 use borrow.Author.Needs.{needs}
 use Rattle.checks_vectors.proofs.diagnose.Statement.{statement}
 use Rattle.checks_vectors.proofs.diagnose.Tie as tie

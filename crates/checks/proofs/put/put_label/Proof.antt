@@ -17,7 +17,7 @@ returns : tie.Need-returns
 returns c = silent (rw (c .enum-told .given .1))
 
 returns-2 : tie.Need-returns-2
-returns-2 c = silent (rw (c .before .before .before .owner .given .1, eq-eqb _ _ (c .if1 .taken)))
+returns-2 c = silent (rw (c .before .before .before .before .owner .given .1, eq-eqb _ _ (c .if1 .taken)))
 
 put-diag-requires : tie.Need-put-diag-requires
 put-diag-requires c κs = search needs
@@ -26,7 +26,7 @@ same-length : tie.Need-same-length
 same-length c = search needs
 
 returns-3 : tie.Need-returns-3
-returns-3 c = told _ _ _ _ (c .before .before .put-diag .ensures) (rw (c .before .before .before .before .before .before .before .owner .given .1, ne-eqb _ _ (c .before .before .before .before .if1 .left)))
+returns-3 c = told _ _ _ _ (c .before .before .put-diag .ensures) (rw (c .before .before .before .before .before .before .before .before .owner .given .1, ne-eqb _ _ (c .before .before .before .before .if1 .left)))
 
 pub put-label-spec : {M : Type 1} → statement M
 put-label-spec =

@@ -27,7 +27,7 @@ same-length : tie.Need-same-length
 same-length c = search needs
 
 returns : tie.Need-returns
-returns c = float-failed (c .before .before .before .before .before .before .before .before .before .before .check-math-symbol .ensures) (c .before .before .before .before .before .before .before .before .before .check-math-symbol2 .ensures) (c .before .before .before .before .before .before .before .put-typecode .ensures) (c .before .before .before .put-variable .ensures) (c .if1 .taken)
+returns c = float-failed (c .before .before .before .before .before .before .before .before .before .before .check-math-symbol .ensures) (c .before .before .before .before .before .before .before .before .before .check-math-symbol2 .ensures) (c .before .before .before .before .before .before .before .put-typecode .ensures) (c .before .before .before .put-variable .ensures) (λ e. omega (arith, e, c .if1 .taken))
 
 earlier-float-requires : tie.Need-earlier-float-requires
 earlier-float-requires c κs = search needs
@@ -39,7 +39,7 @@ same-length-2 : tie.Need-same-length-2
 same-length-2 c = search needs
 
 returns-2 : tie.Need-returns-2
-returns-2 c = float-passed (c .before .before .before .before .before .before .before .before .before .before .before .before .before .before .before .check-math-symbol .ensures) (c .before .before .before .before .before .before .before .before .before .before .before .before .before .before .check-math-symbol2 .ensures) (c .before .before .before .before .before .before .before .before .before .before .before .before .put-typecode .ensures) (c .before .before .before .before .before .before .before .before .put-variable .ensures) (c .before .before .before .before .before .if1 .left) (c .before .before .before .before .earlier-float .ensures) (c .before .before .put-float .ensures)
+returns-2 c = float-passed (c .before .before .before .before .before .before .before .before .before .before .before .before .before .before .before .check-math-symbol .ensures) (c .before .before .before .before .before .before .before .before .before .before .before .before .before .before .check-math-symbol2 .ensures) (c .before .before .before .before .before .before .before .before .before .before .before .before .put-typecode .ensures) (c .before .before .before .before .before .before .before .before .put-variable .ensures) (omega (arith, c .before .before .before .before .before .if1 .left)) (c .before .before .before .before .earlier-float .ensures) (c .before .before .put-float .ensures)
 
 pub check-float-spec : {M : Type 1} → statement M
 check-float-spec =

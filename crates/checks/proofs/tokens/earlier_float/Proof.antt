@@ -27,11 +27,11 @@ cast-of-statement : tie.Need-cast-of-statement
 cast-of-statement c = search needs
 
 of-statement-requires : tie.Need-of-statement-requires
-of-statement-requires c κs = (c .before .before .before .before .before .pre .0, omega (arith, c .before .before .before .before .before .pre .2, float-row _ _ _ _ _ (sym (c .before .before .before .lookup-float .ensures) ∙ c .before .row .given .1)), omega arith)
+of-statement-requires c κs = (c .before .before .before .before .before .before .pre .0, omega (arith, c .before .before .before .before .before .before .pre .2, float-row _ _ _ _ _ (sym (c .before .before .before .before .lookup-float .ensures) ∙ c .before .before .row .given .1)), omega arith)
 
 returns-2 : tie.Need-returns-2
 unfolding earlier-slot
-returns-2 c = rw (← (c .before .before .before .before .lookup-float .ensures), c .before .before .row .given .1, ← (c .of-statement .ensures))
+returns-2 c = rw (← (c .before .before .before .before .before .lookup-float .ensures), c .before .before .before .row .given .1, ← (c .of-statement .ensures))
 
 pub earlier-float-spec : {M : Type 1} → statement M
 earlier-float-spec =

@@ -6,22 +6,22 @@ use Rattle.checks.proofs.tokens.verdict_of.Tie as tie
 use Rattle.checks.proofs.tokens.verdict_of.Reads as reads
 use Rattle.checks.proofs.tokens.verdict_of.Lts as lts
 use Rattle.checks.proofs.tokens.by_known.Reads as by-known-reads
-use Rattle.slots.proofs.look.global_of.Reads as global-of-reads
+use Rattle.nameck.proofs.lookup.lookup_symbol.Reads as lookup-symbol-reads
 
-global-of-requires : tie.Need-global-of-requires
-global-of-requires c κs = search needs
+lookup-symbol-requires : tie.Need-lookup-symbol-requires
+lookup-symbol-requires c κs = search needs
 
 enum-known-g : tie.Need-enum-known-g
 enum-known-g c = search needs
 
 returns : tie.Need-returns
-returns c = judged-one (rw (← (c .before .before .before .before .global-of .ensures), c .before .before .g .given .1, lt-ltb _ _ (c .if1 .taken)))
+returns c = judged-one (c .before .before .before .before .before .before .lookup-symbol .ensures) (rw (c .before .before .before .before .g .given .1, lt-ltb _ _ (c .if1 .taken)))
 
 enum-known-g-2 : tie.Need-enum-known-g-2
 enum-known-g-2 c = search needs
 
 returns-2 : tie.Need-returns-2
-returns-2 c = judged-one (rw (← (c .before .before .before .before .global-of .ensures), c .before .before .g2 .given .1, lt-ltb _ _ (c .if2 .taken)))
+returns-2 c = judged-one (c .before .before .before .before .before .before .lookup-symbol .ensures) (rw (c .before .before .before .before .g2 .given .1, lt-ltb _ _ (c .if2 .taken)))
 
 by-known-requires : tie.Need-by-known-requires
 by-known-requires c κs = search needs
@@ -33,19 +33,19 @@ by-known-requires-2 : tie.Need-by-known-requires-2
 by-known-requires-2 c κs = search needs
 
 returns-3 : tie.Need-returns-3
-returns-3 c = judged-one (rw (← (c .before .before .before .before .global-of .ensures), c .before .before .g .given .1, le-ltb _ _ (c .if1 .left)))
+returns-3 c = judged-one (c .before .before .before .before .before .before .lookup-symbol .ensures) (rw (c .before .before .before .before .g .given .1, le-ltb _ _ (c .if1 .left)))
 
 returns-4 : tie.Need-returns-4
-returns-4 c = judged-one (rw (← (c .before .before .before .before .before .global-of .ensures), c .before .before .before .g2 .given .1, le-ltb _ _ (c .before .if2 .left)) (c .by-known .ensures))
+returns-4 c = judged-one (c .before .before .before .before .before .before .before .lookup-symbol .ensures) (rw (c .before .before .before .before .before .g2 .given .1, le-ltb _ _ (c .before .if2 .left)) (c .by-known .ensures))
 
 returns-5 : tie.Need-returns-5
-returns-5 c = judged-one (rw (← (c .before .before .before .global-of .ensures), c .before .enum-told .given .1) (c .by-known2 .ensures))
+returns-5 c = judged-one (c .before .before .before .lookup-symbol .ensures) (rw (c .before .enum-told .given .1) (c .by-known2 .ensures))
 
 pub verdict-of-spec : {M : Type 1} → statement M
 verdict-of-spec =
     tie.close
     (tie.spec
-    global-of-requires
+    lookup-symbol-requires
     enum-known-g
     returns
     enum-known-g-2

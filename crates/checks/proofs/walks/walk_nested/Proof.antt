@@ -39,14 +39,14 @@ add-of-math c = let x = take-one (c .before .before .before .before .before .bef
 of-math-requires : tie.Need-of-math-requires Inv-loop μ-loop
 of-math-requires c κs = let x = take-one (c .before .before .before .before .before .before .loop .inv .left) (first-of (rw (c .before .before .x .given .1) at (c .before .before .before .before .next-visible .ensures))) in (room-kept (c .before .before .before .before .before .before .loop .inv .kept) (c .before .before .before .before .before .before .before .before .before .before .before .pre .walk .room), omega (arith, x .inside, c .before .before .before .before .before .before .before .before .before .before .before .pre .walk .atoms .rows))
 
-cast-offset : tie.Need-cast-offset Inv-loop μ-loop
-cast-offset c = let f = (first-of (rw (c .before .before .before .before .x .given .1) at (c .before .before .before .before .before .before .next-visible .ensures))) in omega (arith, f .some, f .within, c .before .before .before .before .before .before .before .before .before .before .before .before .before .pre .short)
+cast-t21 : tie.Need-cast-t21 Inv-loop μ-loop
+cast-t21 c = let f = (first-of (rw (c .before .before .before .before .x .given .1) at (c .before .before .before .before .before .before .next-visible .ensures))) in omega (arith, f .some, f .within, c .before .before .before .before .before .before .before .before .before .before .before .before .before .pre .short)
 
-add-offset : tie.Need-add-offset Inv-loop μ-loop
-add-offset c = let f = (first-of (rw (c .before .before .before .before .x .given .1) at (c .before .before .before .before .before .before .next-visible .ensures))) in omega (arith, f .some, f .within, c .before .before .before .before .before .before .before .before .before .before .before .before .before .pre .short)
+add-t25 : tie.Need-add-t25 Inv-loop μ-loop
+add-t25 c = let f = (first-of (rw (c .before .before .before .before .x .given .1) at (c .before .before .before .before .before .before .next-visible .ensures))) in omega (arith, f .some, f .within, c .before .before .before .before .before .before .before .before .before .before .before .before .before .pre .short)
 
-cast-t20 : tie.Need-cast-t20 Inv-loop μ-loop
-cast-t20 c = let x = take-one (c .before .before .before .before .before .before .before .before .before .before .loop .inv .left) (first-of (rw (c .before .before .before .before .before .before .x .given .1) at (c .before .before .before .before .before .before .before .before .next-visible .ensures))) in omega (arith, x .inside, c .before .before .before .before .before .before .before .before .before .before .before .before .before .before .before .pre .walk .atoms .rows, c .before .before .before .before .before .before .before .before .before .before .before .before .before .before .before .pre .walk .room .small)
+cast-t21-2 : tie.Need-cast-t21-2 Inv-loop μ-loop
+cast-t21-2 c = let x = take-one (c .before .before .before .before .before .before .before .before .loop .inv .left) (first-of (rw (c .before .before .before .before .x .given .1) at (c .before .before .before .before .before .before .next-visible .ensures))) in omega (arith, x .inside, c .before .before .before .before .before .before .before .before .before .before .before .before .before .pre .walk .atoms .rows, c .before .before .before .before .before .before .before .before .before .before .before .before .before .pre .walk .room .small)
 
 check-nested-requires : tie.Need-check-nested-requires Inv-loop μ-loop
 check-nested-requires c κs = let x = take-one (c .before .before .before .before .before .before .before .before .before .before .loop .inv .left) (first-of (rw (c .before .before .before .before .before .before .x .given .1) at (c .before .before .before .before .before .before .before .before .next-visible .ensures))) in can-token (c .before .before .before .before .before .before .before .before .before .before .before .before .before .before .before .pre .walk) (c .before .before .before .before .before .before .before .before .before .before .loop .inv .kept) (omega (arith, c .before .before .before .before .before .before .before .before .before .before .loop .inv .few)) (x .inside) (c .before .before .before .of-math .ensures)
@@ -96,9 +96,9 @@ walk-nested-spec =
     enum-known-x
     add-of-math
     of-math-requires
-    cast-offset
-    add-offset
-    cast-t20
+    cast-t21
+    add-t25
+    cast-t21-2
     check-nested-requires
     add-i
     loop-less

@@ -39,14 +39,14 @@ add-of-math c = let x = take-one (c .before .before .before .before .before .loo
 of-math-requires : tie.Need-of-math-requires Inv-loop μ-loop
 of-math-requires c κs = let x = take-one (c .before .before .before .before .before .loop .inv .left) (first-of (rw (c .before .x .given .1) at (c .before .before .before .next-visible .ensures))) in (c .before .before .before .before .before .before .before .before .before .before .pre .walk .room, omega (arith, x .inside, c .before .before .before .before .before .before .before .before .before .before .pre .walk .atoms .rows))
 
-cast-offset : tie.Need-cast-offset Inv-loop μ-loop
-cast-offset c = let f = (first-of (rw (c .before .before .before .x .given .1) at (c .before .before .before .before .before .next-visible .ensures))) in omega (arith, f .some, f .within, c .before .before .before .before .before .before .before .before .before .before .before .before .pre .short)
-
-add-offset : tie.Need-add-offset Inv-loop μ-loop
-add-offset c = let f = (first-of (rw (c .before .before .before .x .given .1) at (c .before .before .before .before .before .next-visible .ensures))) in omega (arith, f .some, f .within, c .before .before .before .before .before .before .before .before .before .before .before .before .pre .short)
-
 cast-t19 : tie.Need-cast-t19 Inv-loop μ-loop
-cast-t19 c = let x = take-one (c .before .before .before .before .before .before .before .before .loop .inv .left) (first-of (rw (c .before .before .before .before .x .given .1) at (c .before .before .before .before .before .before .next-visible .ensures))) in omega (arith, x .inside, c .before .before .before .before .before .before .before .before .before .before .before .before .before .pre .walk .atoms .rows, c .before .before .before .before .before .before .before .before .before .before .before .before .before .pre .walk .room .small)
+cast-t19 c = let f = (first-of (rw (c .before .before .before .x .given .1) at (c .before .before .before .before .before .next-visible .ensures))) in omega (arith, f .some, f .within, c .before .before .before .before .before .before .before .before .before .before .before .before .pre .short)
+
+add-t21 : tie.Need-add-t21 Inv-loop μ-loop
+add-t21 c = let f = (first-of (rw (c .before .before .before .x .given .1) at (c .before .before .before .before .before .next-visible .ensures))) in omega (arith, f .some, f .within, c .before .before .before .before .before .before .before .before .before .before .before .before .pre .short)
+
+cast-t19-2 : tie.Need-cast-t19-2 Inv-loop μ-loop
+cast-t19-2 c = let x = take-one (c .before .before .before .before .before .before .before .before .loop .inv .left) (first-of (rw (c .before .before .before .before .x .given .1) at (c .before .before .before .before .before .before .next-visible .ensures))) in omega (arith, x .inside, c .before .before .before .before .before .before .before .before .before .before .before .before .before .pre .walk .atoms .rows, c .before .before .before .before .before .before .before .before .before .before .before .before .before .pre .walk .room .small)
 
 check-outer-requires : tie.Need-check-outer-requires Inv-loop μ-loop
 check-outer-requires c κs = let x = take-one (c .before .before .before .before .before .before .before .before .loop .inv .left) (first-of (rw (c .before .before .before .before .x .given .1) at (c .before .before .before .before .before .before .next-visible .ensures))) in can-token (c .before .before .before .before .before .before .before .before .before .before .before .before .before .pre .walk) (kept-none _ 12 12 2 7 _) (omega (arith, c .before .before .before .before .before .before .before .before .loop .inv .few)) (x .inside) (c .before .before .of-math .ensures)
@@ -90,9 +90,9 @@ walk-outer-spec =
     enum-known-x
     add-of-math
     of-math-requires
-    cast-offset
-    add-offset
     cast-t19
+    add-t21
+    cast-t19-2
     check-outer-requires
     add-i
     loop-less

@@ -29,7 +29,7 @@ shared-slice-read-if2-2 : tie.Need-shared-slice-read-if2-2 Inv-loop μ-loop
 shared-slice-read-if2-2 c = search needs
 
 returns-2 : tie.Need-returns-2 Inv-loop μ-loop
-returns-2 c = sym (same-differ _ _ _ (search needs) (search needs) (c .if2 .taken)) ∙ c .before .before .before .before .loop .inv .2
+returns-2 c = sym (same-differ _ _ _ (search needs) (search needs) (λ e. omega (arith, e, c .if2 .taken))) ∙ c .before .before .before .before .loop .inv .2
 
 add-i : tie.Need-add-i Inv-loop μ-loop
 add-i c = search needs
@@ -38,7 +38,7 @@ loop-less : tie.Need-loop-less Inv-loop μ-loop
 loop-less c = search needs
 
 loop-again : tie.Need-loop-again Inv-loop μ-loop
-loop-again c = (omega arith, omega arith, same-step _ _ _ (omega arith) (omega arith) (c .if2 .left) ∙ c .before .before .before .before .loop .inv .2)
+loop-again c = (omega arith, omega arith, same-step _ _ _ (omega arith) (omega arith) (omega (arith, c .if2 .left)) ∙ c .before .before .before .before .loop .inv .2)
 
 returns-3 : tie.Need-returns-3 Inv-loop μ-loop
 returns-3 c = sym (same-end _ _ _ (search needs) (search needs)) ∙ c .before .loop .inv .2

@@ -21,8 +21,8 @@ shared-slice-read-g c = search needs
 returns : tie.Need-returns
 returns c = declared-none (c .before .before .symbol .ensures) (c .if1 .taken)
 
-sub-t14 : tie.Need-sub-t14
-sub-t14 c = search needs
+sub-t15 : tie.Need-sub-t15
+sub-t15 c = search needs
 
 returns-2 : tie.Need-returns-2
 returns-2 c = declared-constant (c .before .before .before .symbol .ensures) (c .before .if1 .left) (c .if2 .taken)
@@ -39,6 +39,6 @@ lookup-symbol-spec =
     mul-g
     shared-slice-read-g
     returns
-    sub-t14
+    sub-t15
     returns-2
     returns-3)

@@ -1,3 +1,4 @@
+use native.Mathlib.Omega.{arith}
 use borrow.Author.Tests.{eq-eqb, ne-eqb, le-leb, lt-leb}
 use Rattle.nameck.specs.Naming.{declaring}
 use Rattle.nameck.proofs.naming.declaring_kind.Statement.{statement}
@@ -7,11 +8,11 @@ use Rattle.nameck.proofs.naming.declaring_kind.Lts as lts
 
 returns : tie.Need-returns
 unfolding declaring
-returns c = rw (le-leb _ _ (c .before .if1 .taken), eq-eqb _ _ (c .if2 .taken))
+returns c = rw (le-leb _ _ (c .before .if1 .taken), eq-eqb (c .before .before .args .end) 4294967295 (omega (arith, c .if2 .taken)))
 
 returns-2 : tie.Need-returns-2
 unfolding declaring
-returns-2 c = rw (le-leb _ _ (c .before .if1 .taken), ne-eqb _ _ (c .if2 .left))
+returns-2 c = rw (le-leb _ _ (c .before .if1 .taken), ne-eqb (c .before .before .args .end) 4294967295 (λ e. omega (arith, e, c .if2 .left)))
 
 returns-3 : tie.Need-returns-3
 unfolding declaring

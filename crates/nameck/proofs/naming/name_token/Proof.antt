@@ -45,6 +45,9 @@ mul-work c = let r = some-row (c .math2 .ensures) (c .before .before .before .be
 slice-write-work : tie.Need-slice-write-work
 slice-write-work c = let r = some-row (c .math2 .ensures) (c .before .before .before .before .before .before .before .before .before .before .before .before .pre .1) in omega (arith, r, c .math2 .ensures, c .before .before .before .before .before .before .before .before .before .before .before .before .pre .1 .holds .progress .spans .room, c .before .before .before .intern .kept .1 .0)
 
+cast-t17 : tie.Need-cast-t17
+cast-t17 c = omega (arith, some-early (c .before .before .before .before .before .before .before .before .before .math .ensures) (c .before .before .before .before .before .before .before .before .before .before .before .before .before .pre .1))
+
 note-global-requires : tie.Need-note-global-requires
 note-global-requires c κs =
     let a = token-atom (c .before .before .before .before .before .before .before .before .before .math .ensures) (c .before .before .before .before .before .before .before .to-white .ensures) (c .before .before .before .before .before .before .before .before .before .before .before .before .before .pre .1) (c .before .before .before .before .intern .ensures) in
@@ -72,6 +75,7 @@ name-token-spec =
     math-requires-2
     mul-work
     slice-write-work
+    cast-t17
     note-global-requires
     same-length
     returns)

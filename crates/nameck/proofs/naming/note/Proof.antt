@@ -1,3 +1,5 @@
+use native.Mathlib.Omega.{arith}
+use lib.ListN.{getD}
 use borrow.Author.Tests.{eq-eqb, ne-eqb}
 use Rattle.area.specs.Cells.{word}
 use Rattle.nameck.specs.Table.{noted}
@@ -24,11 +26,11 @@ same-length c = search needs
 
 returns : tie.Need-returns
 unfolding noted word
-returns c = rw (eq-eqb _ _ (c .if1 .taken))
+returns c = rw (eq-eqb (getD (c .before .before .args .work .now) (c .before .before .args .cell) 0) 0 (omega (arith, c .if1 .taken)))
 
 returns-2 : tie.Need-returns-2
 unfolding noted word
-returns-2 c = rw (ne-eqb _ _ (c .if1 .left))
+returns-2 c = rw (ne-eqb (getD (c .before .before .args .work .now) (c .before .before .args .cell) 0) 0 (λ e. omega (arith, e, c .if1 .left)))
 
 pub note-spec : {M : Type 1} → statement M
 note-spec =

@@ -15,9 +15,6 @@ cast-symbol c = search needs
 symbol-requires : tie.Need-symbol-requires
 symbol-requires c κs = search needs
 
-cast-note : tie.Need-cast-note
-cast-note c = search needs
-
 mul-note : tie.Need-mul-note
 mul-note c = search needs
 
@@ -32,7 +29,7 @@ same-length c = search needs
 
 returns : tie.Need-returns
 unfolding globally
-returns c = c .before .before .note .ensures ∙ rw (ne-eqb _ _ (c .before .before .before .before .before .before .if1 .taken), c .before .before .before .symbol .ensures)
+returns c = c .before .before .note .ensures ∙ rw (ne-eqb _ _ (c .before .before .before .before .before .before .before .if1 .taken), c .before .before .before .before .symbol .ensures)
 
 returns-2 : tie.Need-returns-2
 unfolding globally
@@ -44,7 +41,6 @@ note-global-spec =
     (tie.spec
     cast-symbol
     symbol-requires
-    cast-note
     mul-note
     add-note
     note-requires

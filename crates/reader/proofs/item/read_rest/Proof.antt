@@ -6,7 +6,7 @@ use Rattle.reader.proofs.item.read_rest.Tie as tie
 use Rattle.reader.proofs.item.read_rest.Reads as reads
 use Rattle.reader.proofs.item.read_rest.Lts as lts
 use Rattle.reader.proofs.run.close_run.Reads as close-run-reads
-use Rattle.reader.proofs.run.read_proof.Reads as read-proof-reads
+use Rattle.reader.proofs.proof.read_proof.Reads as read-proof-reads
 use Rattle.reader.proofs.state.keep.Reads as keep-reads
 
 read-proof-requires : tie.Need-read-proof-requires

@@ -1,14 +1,13 @@
-use mathlib.Core.Path.{refl, ap}
+use mathlib.Core.Path.{sym, ap, _∙_}
 use Prim.Native.Nat.{ℕ}
 use native.Mathlib.Omega.{arith}
 use lib.ListN.{length, set}
-use borrow.Author.Tests.{le-leb, le-ltb}
-use Rattle.paper.specs.Tokens.{math-token}
-use Rattle.token.specs.Words.{tokens-from, token-of}
+use Rattle.token.specs.Words.{tokens-from}
 use Rattle.reader.specs.Passed.{Shows}
 use Rattle.reader.specs.Runs.{Running}
 use Rattle.reader.proofs.Passes.{passed-few, passed-shows}
-use Rattle.reader.proofs.Runs.{running-start, running-more, running-fits, not-math, and-left, and-right}
+use Rattle.reader.proofs.Runs.{running-start, running-more, running-fits, not-token, not-taken, and-left}
+use borrow.Author.Tests.{not-true, not-false}
 use borrow.Author.Needs.{needs}
 use Rattle.reader.proofs.run.read_run.Statement.{statement}
 use Rattle.reader.proofs.run.read_run.Tie as tie
@@ -16,6 +15,7 @@ use Rattle.reader.proofs.run.read_run.Reads as reads
 use Rattle.reader.proofs.run.read_run.Lts as lts
 use Rattle.area.proofs.math.Reads as math-reads
 use Rattle.reader.proofs.comment.next_visible.Reads as next-visible-reads
+use Rattle.reader.proofs.run.takes.Reads as takes-reads
 
 abbrev Inv-loop : tie.InvT-loop
 Inv-loop table text work₀ n at most first stop₀ count₀ work stop count = Running text work₀ work n at most first stop count
@@ -24,8 +24,8 @@ abbrev μ-loop : tie.MeasureT-loop
 μ-loop table text work₀ n at most first stop₀ count₀ work stop count = length (tokens-from text stop)
 
 -- own --
-shows : (c : tie.After-known-told2 Inv-loop μ-loop) → Shows (c .before .before .before .before .before .before .before .args .text .now) (c .before .before .before .before .loop .stop) (c .before .x .given .0 .0)
-shows c = rw (c .before .x .given .1) at (c .before .before .before .next-visible .ensures)
+shows : (c : tie.After-known-told Inv-loop μ-loop) → Shows (c .before .before .before .before .before .before .before .args .text .now) (c .before .before .before .before .loop .stop) (c .before .after .given .0 .0)
+shows c = rw (c .before .after .given .1) at (c .before .before .before .next-visible .ensures)
 
 -- end own --
 
@@ -35,64 +35,47 @@ loop-holds c = running-start _ (c .before .before .pre .1)
 next-visible-requires : tie.Need-next-visible-requires Inv-loop μ-loop
 next-visible-requires c κs = search needs
 
-enum-told : tie.Need-enum-told Inv-loop μ-loop
-enum-told c = search needs
+enum-known-after : tie.Need-enum-known-after Inv-loop μ-loop
+enum-known-after c = search needs
 
 same-length : tie.Need-same-length Inv-loop μ-loop
-same-length c = c .before .before .before .loop .inv .only .len
+same-length c = c .before .before .loop .inv .only .len
 
 returns : tie.Need-returns Inv-loop μ-loop
-returns c = record { run = c .before .before .before .loop .inv; after = rw (c .enum-told .given .1) at (c .before .before .next-visible .ensures); ends = refl }
+returns c = record { run = c .before .before .loop .inv; after = c .before .next-visible .ensures; ends = and-left _ _ (not-token (c .before .before .before .before .before .args .text .now) (c .before .next-visible .result) (c .match .keys2)) }
 
-enum-known-p : tie.Need-enum-known-p Inv-loop μ-loop
-enum-known-p c = search needs
+takes-requires : tie.Need-takes-requires Inv-loop μ-loop
+takes-requires c κs = search needs
 
 same-length-2 : tie.Need-same-length-2 Inv-loop μ-loop
-same-length-2 c = c .before .before .before .before .loop .inv .only .len
+same-length-2 c = c .before .before .before .before .before .before .loop .inv .only .len
 
 returns-2 : tie.Need-returns-2 Inv-loop μ-loop
-returns-2 c = record { run = c .before .before .before .before .loop .inv; after = rw (c .before .p .given .1) at (c .before .before .before .next-visible .ensures); ends = refl }
-
-enum-known-x : tie.Need-enum-known-x Inv-loop μ-loop
-enum-known-x c = search needs
-
-same-length-3 : tie.Need-same-length-3 Inv-loop μ-loop
-same-length-3 c = c .before .before .before .before .before .before .loop .inv .only .len
-
-returns-3 : tie.Need-returns-3 Inv-loop μ-loop
-returns-3 c = record { run = c .before .before .before .before .before .before .loop .inv; after = shows (c .before .before); ends = and-left _ _ (not-math (shows (c .before .before)) (c .if1 .taken)) }
-
-same-length-4 : tie.Need-same-length-4 Inv-loop μ-loop
-same-length-4 c = c .before .before .before .before .before .before .before .loop .inv .only .len
-
-returns-4 : tie.Need-returns-4 Inv-loop μ-loop
-returns-4 c = record { run = c .before .before .before .before .before .before .before .loop .inv; after = shows (c .before .before .before); ends = and-right (math-token (token-of (c .before .before .before .before .before .before .before .before .before .before .args .text .now) (c .before .before .before .before .x .given .0 .0))) _ (le-ltb _ _ (c .if2 .taken)) }
+returns-2 c = record { run = c .before .before .before .before .before .before .loop .inv; after = shows (c .before .before); ends = not-taken _ (shows (c .before .before)) (sym (c .before .takes .ensures) ∙ not-true _ (c .if1 .taken)) }
 
 add-math : tie.Need-add-math Inv-loop μ-loop
-add-math c = let f = running-fits (c .before .before .before .before .before .before .before .before .before .before .pre .1) (c .before .before .before .before .before .before .before .loop .inv) (shows (c .before .before .before)) in omega (arith, c .before .before .before .before .before .before .before .before .before .before .pre .1 .small)
+add-math c = let f = running-fits (c .before .before .before .before .before .before .before .before .before .pre .1) (c .before .before .before .before .before .before .loop .inv) (shows (c .before .before)) in omega (arith, c .before .before .before .before .before .before .before .before .before .pre .1 .small)
 
 math-requires : tie.Need-math-requires Inv-loop μ-loop
-math-requires c κs = let f = running-fits (c .before .before .before .before .before .before .before .before .before .before .pre .1) (c .before .before .before .before .before .before .before .loop .inv) (shows (c .before .before .before)) in (omega (arith, c .before .before .before .before .before .before .before .before .before .before .pre .1 .small), omega (arith, c .before .before .before .before .before .before .before .before .before .before .pre .1 .small))
+math-requires c κs = let f = running-fits (c .before .before .before .before .before .before .before .before .before .pre .1) (c .before .before .before .before .before .before .loop .inv) (shows (c .before .before)) in (omega (arith, c .before .before .before .before .before .before .before .before .before .pre .1 .small), omega (arith, c .before .before .before .before .before .before .before .before .before .pre .1 .small))
 
 cast-work : tie.Need-cast-work Inv-loop μ-loop
-cast-work c = omega (arith, shows (c .before .before .before .before .before) .whole .some, shows (c .before .before .before .before .before) .whole .within, c .before .before .before .before .before .before .before .before .before .before .before .before .pre .1 .short)
+cast-work c = omega (arith, shows (c .before .before .before .before) .whole .some, shows (c .before .before .before .before) .whole .within, c .before .before .before .before .before .before .before .before .before .before .before .pre .1 .short)
 
 mul-work : tie.Need-mul-work Inv-loop μ-loop
-mul-work c = let f = running-fits (c .before .before .before .before .before .before .before .before .before .before .before .before .pre .1) (c .before .before .before .before .before .before .before .before .before .loop .inv) (shows (c .before .before .before .before .before)) in omega (arith, c .before .before .before .before .before .before .before .before .before .before .before .before .pre .1 .small, c .before .math .ensures)
+mul-work c = let f = running-fits (c .before .before .before .before .before .before .before .before .before .before .before .pre .1) (c .before .before .before .before .before .before .before .before .loop .inv) (shows (c .before .before .before .before)) in omega (arith, c .before .before .before .before .before .before .before .before .before .before .before .pre .1 .small, c .before .math .ensures)
 
 slice-write-work : tie.Need-slice-write-work Inv-loop μ-loop
-slice-write-work c = let f = running-fits (c .before .before .before .before .before .before .before .before .before .before .before .before .pre .1) (c .before .before .before .before .before .before .before .before .before .loop .inv) (shows (c .before .before .before .before .before)) in omega (arith, c .before .before .before .before .before .before .before .before .before .before .before .before .pre .1 .room, c .before .math .ensures, c .before .before .before .before .before .before .before .before .before .loop .inv .only .len)
+slice-write-work c = let f = running-fits (c .before .before .before .before .before .before .before .before .before .before .before .pre .1) (c .before .before .before .before .before .before .before .before .loop .inv) (shows (c .before .before .before .before)) in omega (arith, c .before .before .before .before .before .before .before .before .before .before .before .pre .1 .room, c .before .math .ensures, c .before .before .before .before .before .before .before .before .loop .inv .only .len)
 
 add-count : tie.Need-add-count Inv-loop μ-loop
-add-count c = let f = running-fits (c .before .before .before .before .before .before .before .before .before .before .before .before .pre .1) (c .before .before .before .before .before .before .before .before .before .loop .inv) (shows (c .before .before .before .before .before)) in omega (arith, c .before .before .before .before .before .before .before .before .before .before .before .before .pre .1 .small)
+add-count c = let f = running-fits (c .before .before .before .before .before .before .before .before .before .before .before .pre .1) (c .before .before .before .before .before .before .before .before .loop .inv) (shows (c .before .before .before .before)) in omega (arith, c .before .before .before .before .before .before .before .before .before .before .before .pre .1 .small)
 
 loop-less : tie.Need-loop-less Inv-loop μ-loop
-loop-less c = omega (arith, passed-few (passed-shows (shows (c .before .before .before .before .before))))
+loop-less c = omega (arith, passed-few (passed-shows (shows (c .before .before .before .before))))
 
 loop-again : tie.Need-loop-again Inv-loop μ-loop
-loop-again c =
-    running-more (c .before .before .before .before .before .before .before .before .before .before .before .before .pre .1) (c .before .before .before .before .before .before .before .before .before .loop .inv) (shows (c .before .before .before .before .before)) (le-leb 3 _ (c .before .before .before .if1 .left)) (c .before .before .if2 .left)
-    (ap (λ (i : ℕ). set (c .before .before .before .before .before .before .before .before .before .loop .work) i (c .before .before .before .before .before .before .x .given .0 .0 .start)) (c .before .math .ensures))
+loop-again c = running-more (c .before .before .before .before .before .before .before .before .before .before .before .pre .1) (c .before .before .before .before .before .before .before .before .loop .inv) (shows (c .before .before .before .before)) (sym (c .before .before .before .takes .ensures) ∙ not-false _ (c .before .before .if1 .left)) (ap (λ (i : ℕ). set (c .before .before .before .before .before .before .before .before .loop .work) i (c .before .before .before .before .before .after .given .0 .0 .start)) (c .before .math .ensures))
 
 pub read-run-spec : {M : Type 1} → statement M
 read-run-spec =
@@ -102,17 +85,12 @@ read-run-spec =
     μ-loop
     loop-holds
     next-visible-requires
-    enum-told
+    enum-known-after
     same-length
     returns
-    enum-known-p
+    takes-requires
     same-length-2
     returns-2
-    enum-known-x
-    same-length-3
-    returns-3
-    same-length-4
-    returns-4
     add-math
     math-requires
     cast-work

@@ -1,7 +1,6 @@
-use mathlib.Core.Path.{sym, _∙_}
 use native.Mathlib.Omega.{arith}
 use Rattle.scopeck.proofs.Ready.{row-room, walk-of, floats-of, can-labelled}
-use Rattle.scopeck.proofs.ByKind.{later-bearer, asserted}
+use Rattle.scopeck.proofs.Labelled.{later-bearer, asserted}
 use borrow.Author.Needs.{needs}
 use Rattle.scopeck.proofs.kinds.scope_check_assert.Statement.{statement}
 use Rattle.scopeck.proofs.kinds.scope_check_assert.Tie as tie
@@ -35,7 +34,7 @@ same-length : tie.Need-same-length
 same-length c = search needs
 
 returns : tie.Need-returns
-returns c = later-bearer (c .before .before .before .before .before .before .before .before .read-row .ensures) (c .move-to .ensures) (omega (arith, c .before .before .before .before .before .before .before .before .before .before .before .pre .1)) (sym (c .before .before .before .before .before .enum-told2 .given .1) ∙ c .before .before .before .before .before .before .before .check-label-dup .ensures) (c .before .before .before .check-label .ensures)
+returns c = later-bearer (c .before .before .before .before .before .before .before .before .read-row .ensures) (c .move-to .ensures) (omega (arith, c .before .before .before .before .before .before .before .before .before .before .before .pre .1)) (rw (c .before .before .before .before .before .enum-told2 .given .1) at (c .before .before .before .before .before .before .before .check-label-dup .ensures)) (c .before .before .before .check-label .ensures)
 
 check-eap-requires : tie.Need-check-eap-requires
 check-eap-requires c κs = (walk-of (c .before .before .before .before .before .before .before .pre .0 .holds) (c .before .before .before .before .read-row .ensures), floats-of (c .before .before .before .before .before .before .before .pre .0 .holds) (c .before .before .before .before .read-row .ensures))
@@ -47,7 +46,7 @@ same-length-2 : tie.Need-same-length-2
 same-length-2 c = search needs
 
 returns-2 : tie.Need-returns-2
-returns-2 c = asserted (c .before .before .before .before .before .before .before .before .read-row .ensures) (c .before .before .before .check-eap .ensures) (c .move-to2 .ensures) (c .before .before .before .before .before .before .before .before .before .before .before .pre .1) (sym (c .before .before .before .before .before .enum-told .given .1) ∙ c .before .before .before .before .before .before .before .check-label-dup .ensures)
+returns-2 c = asserted (c .before .before .before .before .before .before .before .before .read-row .ensures) (c .before .before .before .check-eap .ensures) (c .move-to2 .ensures) (c .before .before .before .before .before .before .before .before .before .before .before .pre .1) (rw (c .before .before .before .before .before .enum-told .given .1) at (c .before .before .before .before .before .before .before .check-label-dup .ensures))
 
 pub scope-check-assert-spec : {M : Type 1} → statement M
 scope-check-assert-spec =

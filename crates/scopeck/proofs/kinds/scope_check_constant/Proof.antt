@@ -1,6 +1,6 @@
 use native.Mathlib.Omega.{arith}
 use Rattle.scopeck.proofs.Ready.{row-room, small-place, walk-part}
-use Rattle.scopeck.proofs.ByKind.{constant-outer, constant-nested}
+use Rattle.scopeck.proofs.Unlabelled.{constant-outer, constant-nested}
 use borrow.Author.Needs.{needs}
 use Rattle.scopeck.proofs.kinds.scope_check_constant.Statement.{statement}
 use Rattle.scopeck.proofs.kinds.scope_check_constant.Tie as tie

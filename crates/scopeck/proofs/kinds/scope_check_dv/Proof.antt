@@ -2,7 +2,7 @@ use mathlib.Core.Path.{refl}
 use native.Mathlib.Omega.{arith}
 use Rattle.scopeck.proofs.Ready.{row-room, walk-of}
 use Rattle.slots.proofs.Kept.{room-kept}
-use Rattle.scopeck.proofs.ByKind.{dv-rejected, dv-accepted}
+use Rattle.scopeck.proofs.Unlabelled.{dv-rejected, dv-accepted}
 use borrow.Author.Needs.{needs}
 use Rattle.scopeck.proofs.kinds.scope_check_dv.Statement.{statement}
 use Rattle.scopeck.proofs.kinds.scope_check_dv.Tie as tie

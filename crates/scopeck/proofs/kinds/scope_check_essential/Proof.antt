@@ -1,7 +1,7 @@
-use mathlib.Core.Path.{sym, _∙_, refl}
+use mathlib.Core.Path.{refl}
 use native.Mathlib.Omega.{arith}
 use Rattle.scopeck.proofs.Ready.{row-room, walk-of, floats-of, can-labelled}
-use Rattle.scopeck.proofs.ByKind.{later-bearer, essential-rejected, essential-accepted}
+use Rattle.scopeck.proofs.Labelled.{later-bearer, essential-rejected, essential-accepted}
 use borrow.Author.Needs.{needs}
 use Rattle.scopeck.proofs.kinds.scope_check_essential.Statement.{statement}
 use Rattle.scopeck.proofs.kinds.scope_check_essential.Tie as tie
@@ -39,7 +39,7 @@ same-length-2 : tie.Need-same-length-2
 same-length-2 c = search needs
 
 returns : tie.Need-returns
-returns c = later-bearer (c .before .before .before .before .before .before .before .before .before .before .read-row .ensures) (c .move-to .ensures) (omega (arith, c .before .before .before .before .before .before .before .before .before .before .before .before .before .before .pre .1)) (sym (c .before .before .before .before .before .before .enum-told2 .given .1) ∙ c .before .before .before .before .before .before .before .before .check-label-dup .ensures) (c .before .before .before .check-label .ensures)
+returns c = later-bearer (c .before .before .before .before .before .before .before .before .before .before .read-row .ensures) (c .move-to .ensures) (omega (arith, c .before .before .before .before .before .before .before .before .before .before .before .before .before .before .pre .1)) (rw (c .before .before .before .before .before .before .enum-told2 .given .1) at (c .before .before .before .before .before .before .before .before .check-label-dup .ensures)) (c .before .before .before .check-label .ensures)
 
 check-eap-requires : tie.Need-check-eap-requires
 check-eap-requires c κs = (walk-of (c .before .before .before .before .before .before .before .before .before .before .pre .0 .holds) (c .before .before .before .before .before .before .read-row .ensures), floats-of (c .before .before .before .before .before .before .before .before .before .before .pre .0 .holds) (c .before .before .before .before .before .before .read-row .ensures))
@@ -54,7 +54,7 @@ same-length-4 : tie.Need-same-length-4
 same-length-4 c = search needs
 
 returns-2 : tie.Need-returns-2
-returns-2 c = essential-rejected (c .before .before .before .before .before .before .before .before .before .before .before .before .read-row .ensures) (c .before .before .before .before .before .check-eap .ensures) (c .move-to2 .ensures) (c .before .before .before .before .before .before .before .before .before .before .before .before .before .before .before .before .pre .1) (sym (c .before .before .before .before .before .before .before .before .enum-told .given .1) ∙ c .before .before .before .before .before .before .before .before .before .before .check-label-dup .ensures) (c .before .if1 .taken)
+returns-2 c = essential-rejected (c .before .before .before .before .before .before .before .before .before .before .before .before .read-row .ensures) (c .before .before .before .before .before .check-eap .ensures) (c .move-to2 .ensures) (c .before .before .before .before .before .before .before .before .before .before .before .before .before .before .before .before .pre .1) (rw (c .before .before .before .before .before .before .before .before .enum-told .given .1) at (c .before .before .before .before .before .before .before .before .before .before .check-label-dup .ensures)) (c .before .if1 .taken)
 
 push-requires : tie.Need-push-requires
 push-requires c κs = let b = (c .before .before .before .before .before .before .before .before .before .before .before .before .before .before .before .before .pre .0 .holds) in (b .room, omega (arith, row-room b, b .stands .essentials), omega arith, omega (arith, row-room b))
@@ -69,7 +69,7 @@ same-length-6 : tie.Need-same-length-6
 same-length-6 c = search needs
 
 returns-3 : tie.Need-returns-3
-returns-3 c = essential-accepted (c .before .before .before .before .before .before .before .before .before .before .before .before .before .before .before .before .read-row .ensures) (c .before .before .before .before .before .before .before .before .before .check-eap .ensures) refl (c .before .before .before .before .before .before .before .before .before .before .before .before .before .before .before .before .before .before .before .before .pre .1) (sym (c .before .before .before .before .before .before .before .before .before .before .before .before .enum-told .given .1) ∙ c .before .before .before .before .before .before .before .before .before .before .before .before .before .before .check-label-dup .ensures) (c .before .before .before .before .before .if1 .left) (c .before .before .before .push .ensures)
+returns-3 c = essential-accepted (c .before .before .before .before .before .before .before .before .before .before .before .before .before .before .before .before .read-row .ensures) (c .before .before .before .before .before .before .before .before .before .check-eap .ensures) refl (c .before .before .before .before .before .before .before .before .before .before .before .before .before .before .before .before .before .before .before .before .pre .1) (rw (c .before .before .before .before .before .before .before .before .before .before .before .before .enum-told .given .1) at (c .before .before .before .before .before .before .before .before .before .before .before .before .before .before .check-label-dup .ensures)) (c .before .before .before .before .before .if1 .left) (c .before .before .before .push .ensures)
 
 pub scope-check-essential-spec : {M : Type 1} → statement M
 scope-check-essential-spec =

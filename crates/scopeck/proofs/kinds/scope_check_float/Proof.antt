@@ -1,7 +1,7 @@
-use mathlib.Core.Path.{sym, _∙_}
 use native.Mathlib.Omega.{arith}
 use Rattle.scopeck.proofs.Ready.{row-room, can-labelled, two-rows, can-float}
-use Rattle.scopeck.proofs.ByKind.{later-bearer, float-rejected, float-accepted}
+use Rattle.scopeck.proofs.Labelled.{later-bearer}
+use Rattle.scopeck.proofs.Floating.{float-rejected, float-accepted}
 use borrow.Author.Needs.{needs}
 use Rattle.scopeck.proofs.kinds.scope_check_float.Statement.{statement}
 use Rattle.scopeck.proofs.kinds.scope_check_float.Tie as tie
@@ -40,7 +40,7 @@ same-length-2 : tie.Need-same-length-2
 same-length-2 c = search needs
 
 returns : tie.Need-returns
-returns c = later-bearer (c .before .before .before .before .before .before .before .before .before .before .read-row .ensures) (c .move-to .ensures) (omega (arith, c .before .before .before .before .before .before .before .before .before .before .before .before .before .before .pre .1)) (sym (c .before .before .before .before .before .before .enum-told2 .given .1) ∙ c .before .before .before .before .before .before .before .before .check-label-dup .ensures) (c .before .before .before .check-label .ensures)
+returns c = later-bearer (c .before .before .before .before .before .before .before .before .before .before .read-row .ensures) (c .move-to .ensures) (omega (arith, c .before .before .before .before .before .before .before .before .before .before .before .before .before .before .pre .1)) (rw (c .before .before .before .before .before .before .enum-told2 .given .1) at (c .before .before .before .before .before .before .before .before .check-label-dup .ensures)) (c .before .before .before .check-label .ensures)
 
 of-math-requires : tie.Need-of-math-requires
 of-math-requires c κs = let b = (c .before .before .before .before .before .before .before .before .before .pre .0 .holds) in (b .room, omega (arith, two-rows b (c .before .before .before .before .before .read-row .ensures) (c .before .before .before .before .before .before .before .before .before .pre .1)))
@@ -64,7 +64,10 @@ same-length-4 : tie.Need-same-length-4
 same-length-4 c = search needs
 
 returns-2 : tie.Need-returns-2
-returns-2 c = float-rejected (c .before .before .before .before .before .before .before .before .before .before .before .before .before .before .before .before .before .read-row .ensures) (c .before .before .before .before .before .before .before .before .before .before .before .before .before .before .before .before .before .before .before .before .before .pre .1) (sym (c .before .before .before .before .before .before .before .before .before .before .before .before .before .enum-told .given .1) ∙ c .before .before .before .before .before .before .before .before .before .before .before .before .before .before .before .check-label-dup .ensures) (c .before .before .before .before .before .before .before .before .before .before .before .of-math .ensures) (c .before .before .before .before .before .before .before .before .of-math2 .ensures) (c .before .before .before .before .before .check-float .ensures) (c .move-to2 .ensures) (λ q. c .before .if1 .taken (sym q))
+returns-2 c = float-rejected (c .before .before .before .before .before .before .before .before .before .before .before .before .before .before .before .before .before .read-row .ensures) (c .before .before .before .before .before .before .before .before .before .before .before .before .before .before .before .before .before .before .before .before .before .pre .1) (rw (c .before .before .before .before .before .before .before .before .before .before .before .before .before .enum-told .given .1) at (c .before .before .before .before .before .before .before .before .before .before .before .before .before .before .before .check-label-dup .ensures)) (c .before .before .before .before .before .before .before .before .before .before .before .of-math .ensures) (c .before .before .before .before .before .before .before .before .of-math2 .ensures) (c .before .before .before .before .before .check-float .ensures) (c .move-to2 .ensures) (λ q. omega (arith, q, c .before .if1 .taken))
+
+cast-t20 : tie.Need-cast-t20
+cast-t20 c = let b = (c .before .before .before .before .before .before .before .before .before .before .before .before .before .before .before .before .before .before .before .before .before .pre .0 .holds) in omega (arith, row-room b, b .room .small)
 
 record-float-requires : tie.Need-record-float-requires
 record-float-requires c κs = let b = (c .before .before .before .before .before .before .before .before .before .before .before .before .before .before .before .before .before .before .before .before .before .pre .0 .holds) in (b .room, can-float b (c .before .before .before .before .before .before .before .before .before .before .before .before .before .before .before .before .before .read-row .ensures) (c .before .before .before .before .before .before .before .before .before .before .before .before .before .before .before .before .before .before .before .before .before .pre .1) (c .before .before .before .before .before .before .before .before .before .before .before .of-math .ensures) (c .before .before .before .before .before .before .before .before .of-math2 .ensures) .1 .atom, omega (arith, row-room b))
@@ -79,7 +82,7 @@ same-length-6 : tie.Need-same-length-6
 same-length-6 c = search needs
 
 returns-3 : tie.Need-returns-3
-returns-3 c = float-accepted (c .before .before .before .before .before .before .before .before .before .before .before .before .before .before .before .before .before .before .before .before .before .read-row .ensures) (c .before .before .before .before .before .before .before .before .before .before .before .before .before .before .before .before .before .before .before .before .before .before .before .before .before .pre .1) (sym (c .before .before .before .before .before .before .before .before .before .before .before .before .before .before .before .before .before .enum-told .given .1) ∙ c .before .before .before .before .before .before .before .before .before .before .before .before .before .before .before .before .before .before .before .check-label-dup .ensures) (c .before .before .before .before .before .before .before .before .before .before .before .before .before .before .before .of-math .ensures) (c .before .before .before .before .before .before .before .before .before .before .before .before .of-math2 .ensures) (c .before .before .before .before .before .before .before .before .before .check-float .ensures) (c .move-to3 .ensures) (sym (c .before .before .before .before .before .if1 .left)) (c .before .before .before .record-float .ensures)
+returns-3 c = float-accepted (c .before .before .before .before .before .before .before .before .before .before .before .before .before .before .before .before .before .before .before .before .before .read-row .ensures) (c .before .before .before .before .before .before .before .before .before .before .before .before .before .before .before .before .before .before .before .before .before .before .before .before .before .pre .1) (rw (c .before .before .before .before .before .before .before .before .before .before .before .before .before .before .before .before .before .enum-told .given .1) at (c .before .before .before .before .before .before .before .before .before .before .before .before .before .before .before .before .before .before .before .check-label-dup .ensures)) (c .before .before .before .before .before .before .before .before .before .before .before .before .before .before .before .of-math .ensures) (c .before .before .before .before .before .before .before .before .before .before .before .before .of-math2 .ensures) (c .before .before .before .before .before .before .before .before .before .check-float .ensures) (c .move-to3 .ensures) (omega (arith, c .before .before .before .before .before .if1 .left)) (c .before .before .before .record-float .ensures)
 
 pub scope-check-float-spec : {M : Type 1} → statement M
 scope-check-float-spec =
@@ -102,6 +105,7 @@ scope-check-float-spec =
     same-length-3
     same-length-4
     returns-2
+    cast-t20
     record-float-requires
     move-to-requires-3
     same-length-5

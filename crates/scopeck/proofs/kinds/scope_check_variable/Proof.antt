@@ -1,6 +1,6 @@
 use native.Mathlib.Omega.{arith}
 use Rattle.scopeck.proofs.Ready.{row-room, walk-part}
-use Rattle.scopeck.proofs.ByKind.{variable-outer, variable-nested}
+use Rattle.scopeck.proofs.Unlabelled.{variable-outer, variable-nested}
 use borrow.Author.Needs.{needs}
 use Rattle.scopeck.proofs.kinds.scope_check_variable.Statement.{statement}
 use Rattle.scopeck.proofs.kinds.scope_check_variable.Tie as tie

@@ -1,13 +1,14 @@
 use borrow.Author.Tests.{eq-eqb, ne-eqb}
+use Rattle.scopeck.proofs.Gives.{owns-by}
 use borrow.Author.Needs.{needs}
 use Rattle.scopeck.proofs.rows.check_label_dup.Statement.{statement}
 use Rattle.scopeck.proofs.rows.check_label_dup.Tie as tie
 use Rattle.scopeck.proofs.rows.check_label_dup.Reads as reads
 use Rattle.scopeck.proofs.rows.check_label_dup.Lts as lts
-use Rattle.slots.proofs.look.label_owner.Reads as label-owner-reads
+use Rattle.nameck.proofs.lookup.lookup_label.Reads as lookup-label-reads
 
-label-owner-requires : tie.Need-label-owner-requires
-label-owner-requires c κs = search needs
+lookup-label-requires : tie.Need-lookup-label-requires
+lookup-label-requires c κs = search needs
 
 enum-known-o : tie.Need-enum-known-o
 enum-known-o c = search needs
@@ -16,14 +17,14 @@ enum-told : tie.Need-enum-told
 enum-told c = search needs
 
 returns : tie.Need-returns
-returns c = rw (← (c .before .before .label-owner .ensures), c .enum-told .given .1)
+returns c = owns-by (c .before .before .lookup-label .ensures) (rw (c .enum-told .given .1))
 
 returns-2 : tie.Need-returns-2
-returns-2 c = rw (← (c .before .before .before .before .before .label-owner .ensures), c .before .before .before .o .given .1, eq-eqb _ _ (c .if1 .taken))
+returns-2 c = owns-by (c .before .before .before .before .before .before .lookup-label .ensures) (rw (c .before .before .before .before .o .given .1, eq-eqb _ _ (c .if1 .taken)))
 
 returns-3 : tie.Need-returns-3
-returns-3 c = rw (← (c .before .before .before .before .before .label-owner .ensures), c .before .before .before .o .given .1, ne-eqb _ _ (c .if1 .left))
+returns-3 c = owns-by (c .before .before .before .before .before .before .lookup-label .ensures) (rw (c .before .before .before .before .o .given .1, ne-eqb _ _ (c .if1 .left)))
 
 pub check-label-dup-spec : {M : Type 1} → statement M
 check-label-dup-spec =
-    tie.close (tie.spec label-owner-requires enum-known-o enum-told returns returns-2 returns-3)
+    tie.close (tie.spec lookup-label-requires enum-known-o enum-told returns returns-2 returns-3)

@@ -32,11 +32,11 @@ sub-t10 c = search needs
 
 returns-2 : tie.Need-returns-2
 unfolding float-slot
-returns-2 c = rw (← (c .before .before .before .of-symbol .ensures), ne-eqb _ _ (c .before .before .if1 .left), ← (c .before .of-statement .ensures), lt-ltb _ _ (c .if2 .taken))
+returns-2 c = rw (← (c .before .before .before .before .of-symbol .ensures), ne-eqb _ _ (c .before .before .before .if1 .left), ← (c .before .before .of-statement .ensures), lt-ltb _ _ (c .if2 .taken))
 
 returns-3 : tie.Need-returns-3
 unfolding float-slot
-returns-3 c = rw (← (c .before .before .before .of-symbol .ensures), ne-eqb _ _ (c .before .before .if1 .left), ← (c .before .of-statement .ensures), le-ltb _ _ (c .if2 .left))
+returns-3 c = rw (← (c .before .before .before .before .of-symbol .ensures), ne-eqb _ _ (c .before .before .before .if1 .left), ← (c .before .before .of-statement .ensures), le-ltb _ _ (c .if2 .left))
 
 pub lookup-float-spec : {M : Type 1} → statement M
 lookup-float-spec =

@@ -21,11 +21,11 @@ of-symbol-requires-2 c κs = search needs
 
 returns : tie.Need-returns
 unfolding nested-slot
-returns c = rw (← (c .before .before .before .of-symbol .ensures), lt-ltb _ _ (c .before .before .if1 .taken), ← (c .of-symbol2 .ensures))
+returns c = rw (← (c .before .before .before .before .of-symbol .ensures), lt-ltb _ _ (c .before .before .if1 .taken), ← (c .of-symbol2 .ensures))
 
 returns-2 : tie.Need-returns-2
 unfolding nested-slot
-returns-2 c = rw (← (c .before .of-symbol .ensures), le-ltb _ _ (c .if1 .left))
+returns-2 c = rw (← (c .before .before .of-symbol .ensures), le-ltb _ _ (c .if1 .left))
 
 pub nested-of-spec : {M : Type 1} → statement M
 nested-of-spec =

@@ -12,9 +12,6 @@ cast-put-symbol c = search needs
 add-put-symbol : tie.Need-add-put-symbol
 add-put-symbol c = search needs
 
-cast-put-symbol-2 : tie.Need-cast-put-symbol-2
-cast-put-symbol-2 c = search needs
-
 put-symbol-requires : tie.Need-put-symbol-requires
 put-symbol-requires c κs = search needs
 
@@ -27,11 +24,4 @@ returns c = c .before .before .put-symbol .ensures
 
 pub record-float-spec : {M : Type 1} → statement M
 record-float-spec =
-    tie.close
-    (tie.spec
-    cast-put-symbol
-    add-put-symbol
-    cast-put-symbol-2
-    put-symbol-requires
-    same-length
-    returns)
+    tie.close (tie.spec cast-put-symbol add-put-symbol put-symbol-requires same-length returns)

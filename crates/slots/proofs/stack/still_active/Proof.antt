@@ -11,7 +11,7 @@ use Rattle.slots.proofs.stack.still_active.Lts as lts
 use Rattle.slots.proofs.cells.of_statement.Reads as of-statement-reads
 
 abbrev Inv-loop : tie.InvT-loop
-Inv-loop work n column depth here k₀ k = (k ≤ depth) × (pop-of work column k here ≡ pop-of work column depth here)
+Inv-loop work n column depth here k₀ k = (k ≤ depth) × (pop-of work column k (here .0) ≡ pop-of work column depth (here .0))
 
 abbrev μ-loop : tie.MeasureT-loop
 μ-loop work n column depth here k₀ k = k
@@ -32,7 +32,7 @@ of-statement-requires-2 : tie.Need-of-statement-requires-2 Inv-loop μ-loop
 of-statement-requires-2 c κs = (c .before .before .before .before .pre .room, omega (arith, c .of-statement .ensures, c .before .before .before .before .pre .entry (c .before .before .loop .k - 1) (omega arith)), omega arith)
 
 returns : tie.Need-returns Inv-loop μ-loop
-returns c = sym (pop-stop _ _ _ _ (omega arith) (omega (arith, end-is _ _ _ _ _ (c .before .before .of-statement .ensures) (c .before .of-statement2 .ensures)))) ∙ c .before .before .before .before .loop .inv .1
+returns c = sym (pop-stop _ _ _ _ (omega arith) (omega (arith, end-is _ _ _ _ _ (c .before .before .before .of-statement .ensures) (c .before .before .of-statement2 .ensures)))) ∙ c .before .before .before .before .before .loop .inv .1
 
 sub-k : tie.Need-sub-k Inv-loop μ-loop
 sub-k c = search needs
@@ -41,7 +41,7 @@ loop-less : tie.Need-loop-less Inv-loop μ-loop
 loop-less c = search needs
 
 loop-again : tie.Need-loop-again Inv-loop μ-loop
-loop-again c = (omega arith, pop-more _ _ _ _ (omega arith) (omega (arith, end-is _ _ _ _ _ (c .before .before .of-statement .ensures) (c .before .of-statement2 .ensures))) ∙ c .before .before .before .before .loop .inv .1)
+loop-again c = (omega arith, pop-more _ _ _ _ (omega arith) (omega (arith, end-is _ _ _ _ _ (c .before .before .before .of-statement .ensures) (c .before .before .of-statement2 .ensures))) ∙ c .before .before .before .before .before .loop .inv .1)
 
 returns-2 : tie.Need-returns-2 Inv-loop μ-loop
 returns-2 c = sym (pop-zero _ _ _ _ (omega arith)) ∙ c .before .loop .inv .1
