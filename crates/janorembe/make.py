@@ -1,0 +1,26 @@
+#!/usr/bin/env python3
+"""make.py MODEL: writes `stdout` of this crate from its `stdin`: the streams of the model (its `check`), a program that was
+written from document 01 by itself."""
+import importlib.util
+import os
+import sys
+
+HERE = os.path.dirname(os.path.abspath(__file__))
+
+
+def main(path):
+    spec = importlib.util.spec_from_file_location("model", path)
+    model = importlib.util.module_from_spec(spec)
+    spec.loader.exec_module(model)
+    with open(os.path.join(HERE, "stdin"), "rb") as f:
+        text = f.read()
+    number, place, frames, diags = model.check(text, 16384, 4194304, 36864)
+    if number:
+        sys.exit(f"number {number} at {place}")
+    kinds = {diags[i + 4] for i in range(0, len(diags), 18)}
+    print(f"{len(frames)} frame bytes, {len(diags)} diagnostics bytes, kinds {sorted(kinds)}")
+    with open(os.path.join(HERE, "stdout"), "wb") as f:
+        f.write(frames + diags)
+
+
+main(sys.argv[1])

@@ -1,0 +1,13 @@
+// Reading and naming without checks and frames, for `bench/run`: it says how much of a call the walk over the names takes.
+use paper::Reading;
+
+// Reads a text, and names its labels and symbols if it is read. The work area is not cleared.
+#[no_mangle]
+pub extern "C" fn naming_bench_name(text: &[u8], work: &mut [u32]) {
+    match reader::read(text, work) {
+        Reading::Unread(_) => {}
+        Reading::Read(rows, _) => {
+            fold::start::start(text, work, rows);
+        }
+    }
+}

@@ -1,0 +1,73 @@
+//! The operation on a file.
+//!
+//! `on-file TEXT FRAMES DIAGNOSTICS` writes both streams to files and prints number, place and used lengths.
+//! `on-file --time TEXT ROUNDS` prints, in ms, the best time over buffers that were touched before, the best over buffers that
+//! were not, and the best time that clearing the work area alone takes.
+
+use janorembe::{check, streams};
+use std::hint::black_box;
+use std::time::Instant;
+
+fn read(path: &str) -> Vec<u8> {
+    std::fs::read(path).unwrap_or_else(|e| fail(&format!("{path}: {e}")))
+}
+
+fn write(path: &str, bytes: &[u8]) {
+    std::fs::write(path, bytes).unwrap_or_else(|e| fail(&format!("{path}: {e}")));
+}
+
+fn fail(why: &str) -> ! {
+    eprintln!("{why}");
+    std::process::exit(1)
+}
+
+fn answer(text: &str, frames: &str, diags: &str) {
+    match streams(&read(text)) {
+        Ok(s) => {
+            write(frames, &s.frames);
+            write(diags, &s.diags);
+            println!("0 0 {} {}", s.frames.len(), s.diags.len());
+        }
+        Err(a) => println!("{} {} 0 0", a.number, a.place),
+    }
+}
+
+fn milliseconds(run: impl FnOnce()) -> f64 {
+    let begin = Instant::now();
+    run();
+    begin.elapsed().as_secs_f64() * 1e3
+}
+
+/// The work area is asked for anew in each round, so that its pages are not there yet in the first call.
+fn time(path: &str, rounds: usize) {
+    let text = read(path);
+    let needed = check(&text, &mut [], &mut [], &mut []);
+    let words = if needed.number == 2 { needed.place as usize } else { 0 };
+    let s = streams(&text).unwrap_or_else(|a| fail(&format!("{path}: number {} at {}", a.number, a.place)));
+    let (frames_length, diags_length) = (s.frames.len(), s.diags.len());
+    let mut best = [f64::MAX; 3];
+    for _ in 0..rounds {
+        let (mut work, mut frames, mut diags) = (vec![0u32; words], vec![0u8; frames_length], vec![0u8; diags_length]);
+        let untouched = milliseconds(|| _ = black_box(check(&text, &mut work, &mut frames, &mut diags)));
+        let touched = milliseconds(|| _ = black_box(check(&text, &mut work, &mut frames, &mut diags)));
+        let clearing = milliseconds(|| black_box(&mut work).fill(0));
+        if frames != s.frames || diags != s.diags {
+            fail("two calls gave different streams");
+        }
+        best = [best[0].min(touched), best[1].min(untouched), best[2].min(clearing)];
+    }
+    println!(
+        "touched {:.3} untouched {:.3} clearing {:.3} words {words} frames {frames_length}",
+        best[0], best[1], best[2]
+    );
+}
+
+fn main() {
+    let args: Vec<String> = std::env::args().skip(1).collect();
+    let args: Vec<&str> = args.iter().map(String::as_str).collect();
+    match args[..] {
+        ["--time", text, rounds] => time(text, rounds.parse().unwrap_or_else(|_| fail("ROUNDS is a number"))),
+        [text, frames, diags] => answer(text, frames, diags),
+        _ => fail("on-file TEXT FRAMES DIAGNOSTICS | on-file --time TEXT ROUNDS"),
+    }
+}
