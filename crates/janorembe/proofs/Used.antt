@@ -8,8 +8,8 @@ use lib.ListN.{length}
 use Rattle.paper.specs.Reader.{Outcome, refused, given}
 use Rattle.paper.specs.Answer.{Streams, outcome, answer, answer-of}
 use Rattle.paper.specs.declared.Answer.{Answer}
-use Rattle.paper.specs.declared.Answer.the-variants.{Done, Refused}
-use Rattle.theorems.proofs.Refusals.{Fits, answered}
+use Rattle.paper.specs.declared.Answer.the-variants.{Done}
+use Rattle.theorems.proofs.Refusals.{answered}
 use Rattle.catalogue.specs.Promise.{Checks}
 
 pub record Used (f d p q : ℕ) : Type 0 where
