@@ -1,5 +1,7 @@
-// The frame of an accepted assertion (carries construct_full_frame; scan_expression and scan_dv are the walks of `sight`).
+// The frame of an accepted assertion (carries construct_full_frame).
 // Variables are numbered, the record is written, and the numbers are taken away again.
+use crate::scan::scan_dv;
+use crate::scan::scan_expression;
 ghost use Prim.Native.Nat.{_<_, _^_};
 ghost use Rattle.frames.specs.Assert.{SomeFraming, Frames};
 
@@ -27,8 +29,8 @@ pub fn construct_full_frame(
     ensures { λ r. ⌜ Frames (now (text .entry)) (now (work .entry)) (now (work .exit)) n row es ds (now (buf .entry)) (now (buf .exit)) at r ⌝ }
 {
     let active = sight::scan_all(work, n, 0, area::ESS, es, 1);
-    let mandatory = sight::scan(work, n, active, row, 1);
-    let vars = sight::scan_all(work, n, mandatory, area::DIS, ds, 0);
+    let mandatory = scan_expression(work, n, active, row);
+    let vars = scan_dv(work, n, mandatory, ds);
     if MOST_VARIABLES < vars {
         sight::forget(work, n, vars);
         return Built::TooMany;

@@ -3,4 +3,5 @@
 pub mod assert;
 pub mod front;
 pub mod full;
+pub mod scan;
 pub mod stub;
