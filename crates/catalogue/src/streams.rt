@@ -9,7 +9,7 @@ ghost use Rattle.fold.specs.Start.{Read};
 ghost use Rattle.catalogue.specs.Streams.{Answered};
 
 /// The answer for a text of so many statements.
-pub fn answer_read(
+pub(crate) fn answer_read(
     text: &[u8],
     work: &mut [u32],
     frames: &mut [u8],
