@@ -3,12 +3,15 @@
 
 The streams are those of the model (its `check`), a program that was written from document 01 by itself.
 """
-import importlib.util
 import os
 import struct
 import sys
 
 HERE = os.path.dirname(os.path.abspath(__file__))
+sys.dont_write_bytecode = True
+sys.path.insert(0, os.path.join(HERE, "../../tools"))
+from modelled import load, texts  # noqa: E402
+
 # one text at least for each kind in each of its cases
 HAND = [
     b"$c x $. $v x $.", b"${ $v x x $. $}", b"${ $v x $. ${ $v x $. $} $}", b"$v x $. ${ $v x $. $}",
@@ -23,22 +26,11 @@ HAND = [
 ]
 
 
-def load(path):
-    spec = importlib.util.spec_from_file_location("model", path)
-    module = importlib.util.module_from_spec(spec)
-    spec.loader.exec_module(module)
-    return module
-
-
 def main(argv):
     model = load(argv[0])
-    texts = list(HAND)
-    for path in argv[1:]:
-        with open(path) as f:
-            lines = [line.split() for line in f if line.strip() and not line.startswith("#")]
-        texts += [bytes.fromhex(fields[1]) if fields[1] != "-" else b"" for fields in lines if len(fields[1]) <= 800]
+    given_texts = HAND + [text for text in texts(argv[1:]) if len(text) <= 400]
     given, right = b"", b""
-    for text in texts:
+    for text in given_texts:
         if len(given) + 2 + len(text) > 65000:
             break
         number, _, _, diags = model.check(text, 65536, 1 << 40, 16384)

@@ -3,12 +3,15 @@
 
 The streams are those of the model (its `check`), a program that was written from document 01 by itself.
 """
-import importlib.util
 import os
 import struct
 import sys
 
 HERE = os.path.dirname(os.path.abspath(__file__))
+sys.dont_write_bytecode = True
+sys.path.insert(0, os.path.join(HERE, "../../tools"))
+from modelled import load, texts  # noqa: E402
+
 WFF = b"$c ( ) wff |- $. $v x y z $. wx $f wff x $. wy $f wff y $. wz $f wff z $. "
 # each part of a frame in each of its cases
 HAND = [
@@ -37,22 +40,11 @@ HAND = [
 ]
 
 
-def load(path):
-    spec = importlib.util.spec_from_file_location("model", path)
-    module = importlib.util.module_from_spec(spec)
-    spec.loader.exec_module(module)
-    return module
-
-
 def main(argv):
     model = load(argv[0])
-    texts = list(HAND)
-    for path in argv[1:]:
-        with open(path) as f:
-            lines = [line.split() for line in f if line.strip() and not line.startswith("#")]
-        texts += [bytes.fromhex(fields[1]) if fields[1] != "-" else b"" for fields in lines]
+    given_texts = HAND + texts(argv[1:])
     given, right = b"", b""
-    for i, text in enumerate(texts):
+    for i, text in enumerate(given_texts):
         number, _, frames, _ = model.check(text, 524288, 2621440, 1 << 40)
         if number and i >= len(HAND):
             continue

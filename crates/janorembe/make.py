@@ -1,17 +1,17 @@
 #!/usr/bin/env python3
 """make.py MODEL: writes `stdout` of this crate from its `stdin`: the streams of the model (its `check`), a program that was
 written from document 01 by itself."""
-import importlib.util
 import os
 import sys
 
 HERE = os.path.dirname(os.path.abspath(__file__))
+sys.dont_write_bytecode = True
+sys.path.insert(0, os.path.join(HERE, "../../tools"))
+from modelled import load  # noqa: E402
 
 
 def main(path):
-    spec = importlib.util.spec_from_file_location("model", path)
-    model = importlib.util.module_from_spec(spec)
-    spec.loader.exec_module(model)
+    model = load(path)
     with open(os.path.join(HERE, "stdin"), "rb") as f:
         text = f.read()
     number, place, frames, diags = model.check(text, 16384, 4194304, 36864)
