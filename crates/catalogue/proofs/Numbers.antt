@@ -25,9 +25,6 @@ use Rattle.fold.specs.Fold as fold
 use Rattle.fold.specs.Start.{Held, Read, Starts}
 use Rattle.catalogue.specs.Streams.{Gives, Answered}
 
-pub some-whole : {t w v : List ℕ} {rows : ℕ} {s : Started} → Starts t w v rows s → Read t w rows → SomeWhole t v (s .n) rows (s .names)
-some-whole a x = record { of = x .of; holds = a .sim (x .holds) }
-
 pub whole-again : {t w v u b b′ o o′ : List ℕ} {rows : ℕ} {s : Started} {r : Folded}
     → Starts t w v rows s → FoldsAll t v u b b′ o o′ (s .n) rows (s .names) r → Read t w rows → SomeWhole t u (s .n) rows (s .names)
 whole-again a z x = record { of = x .of; holds = z .sim (a .sim (x .holds)) .0 }

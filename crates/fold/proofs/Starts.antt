@@ -17,6 +17,8 @@ use Rattle.facts.proofs.Read.{facts}
 use Rattle.nameck.specs.Naming.{Readable, SomeRead, AllNamed}
 use Rattle.sight.specs.Numbered.{Unnumbered, SomeUnnumbered, Presets}
 use Rattle.slots.proofs.Marks.{marks-none}
+use Rattle.fold.specs.declared.start.Started.{Started}
+use Rattle.fold.specs.Fold.{SomeWhole}
 use Rattle.fold.specs.Start.{Held, Read, Starts}
 use Rattle.fold.proofs.Short.{short-of}
 
@@ -85,3 +87,6 @@ starts {t} e a p len =
             unframed = record { free = y .numbered; short = short-of t (h .words) l (h .read) };
           };
     }
+
+pub some-whole : {t w v : List ℕ} {rows : ℕ} {s : Started} → Starts t w v rows s → Read t w rows → SomeWhole t v (s .n) rows (s .names)
+some-whole a x = record { of = x .of; holds = a .sim (x .holds) }

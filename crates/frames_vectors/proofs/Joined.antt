@@ -1,15 +1,12 @@
--- What the start leaves is what the fold asks: from the reader's promise to both streams.
+-- From what the fold starts from to both streams.
 -- For every statement list that the rows stand for.
 use mathlib.Core.List.{List}
 use Prim.Native.Nat.{ℕ}
 use Rattle.fold.specs.declared.all.Folded.{Folded}
 use Rattle.fold.specs.declared.start.Started.{Started}
-use Rattle.fold.specs.Fold.{SomeWhole, FoldsAll}
-use Rattle.fold.specs.Start.{Read, Starts}
+use Rattle.fold.specs.Fold.{FoldsAll}
+use Rattle.fold.specs.Start.{Starts}
 use Rattle.frames_vectors.specs.Framed.{Framed}
-
-pub some-whole : {t w v : List ℕ} {rows : ℕ} {s : Started} → Read t w rows → Starts t w v rows s → SomeWhole t v (s .n) rows (s .names)
-some-whole x s = record { of = x .of; holds = s .sim (x .holds) }
 
 pub framed :
     {t w v u b b′ o o′ : List ℕ} {rows : ℕ} {s : Started} {r : Folded} → Starts t w v rows s

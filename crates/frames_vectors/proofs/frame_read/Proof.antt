@@ -1,4 +1,5 @@
-use Rattle.frames_vectors.proofs.Joined.{some-whole, framed}
+use Rattle.fold.proofs.Starts.{some-whole}
+use Rattle.frames_vectors.proofs.Joined.{framed}
 use borrow.Author.Needs.{needs}
 use Rattle.frames_vectors.proofs.frame_read.Statement.{statement}
 use Rattle.frames_vectors.proofs.frame_read.Tie as tie
@@ -11,7 +12,7 @@ start-requires : tie.Need-start-requires
 start-requires c κs = search needs
 
 fold-all-requires : tie.Need-fold-all-requires
-fold-all-requires c κs = some-whole (c .before .before .before .before .before .before .before .before .before .before .before .pre) (c .before .before .before .before .before .start .ensures)
+fold-all-requires c κs = some-whole (c .before .before .before .before .before .start .ensures) (c .before .before .before .before .before .before .before .before .before .before .before .pre)
 
 same-length : tie.Need-same-length
 same-length c = search needs

@@ -1,8 +1,9 @@
+use Rattle.fold.proofs.Starts.{some-whole}
 use Rattle.stream.proofs.Wrote.{none-before}
 use mathlib.Core.Path.{ap}
 use native.Mathlib.Omega.{arith}
 use lib.ListN.{length}
-use Rattle.catalogue.proofs.Numbers.{some-whole, whole-again, many, short-frames, short-diags, done}
+use Rattle.catalogue.proofs.Numbers.{whole-again, many, short-frames, short-diags, done}
 use borrow.Author.Needs.{needs}
 use Rattle.catalogue.proofs.streams.answer_read.Statement.{statement}
 use Rattle.catalogue.proofs.streams.answer_read.Tie as tie
