@@ -9,6 +9,7 @@ use crate::numbers::lookup_place;
 ghost use Rattle.capi.specs.Promise.{Checked, Looked};
 
 pub mod numbers;
+pub mod view;
 
 /// The number of `catalogue::check`; its place and both used lengths go into `answer`.
 #[no_mangle]
