@@ -1,13 +1,15 @@
 -- The walk over the active `$d` in two parts: the lowest entries of the stack, and then the others one by one.
 -- Assumes nothing.
 use mathlib.Core.Path.{_≡_, sym, _∙_}
-use Prim.Native.Nat.{ℕ, _<_, _≤_}
+use mathlib.Core.List.{List}
+use Prim.Native.Nat.{ℕ, _+_, _<_, _≤_}
 use native.Mathlib.Omega.{arith}
 use lib.ListN.{length, getD}
 use Rattle.paper.specs.Statements.{Statement}
+use Rattle.area.specs.Cells.{statement-cell, word}
 use Rattle.sight.specs.Static.{stack}
-use Rattle.sight.specs.Numbered.{CanScanAll, ScansAll}
-use Rattle.sight.proofs.Stacks.{InvAll, stack-at}
+use Rattle.sight.specs.Numbered.{Scans, CanScanAll, ScansAll}
+use Rattle.sight.proofs.Stacks.{InvAll, stack-at, all-step}
 use Rattle.slots.specs.Stack.{Deep}
 
 pub deep-stack : {w : List ℕ} {n k c d i : ℕ} → CanScanAll w n k c d i → Deep w n c d
@@ -37,6 +39,18 @@ can-lower {w} {c = c} {r} {d} h x =
       first = x .first;
     }
 
-pub lower-walked : {w v : List ℕ} {n k x c r d i : ℕ} → r ≤ d → ScansAll w v n k x c r i → InvAll w v n k x c d i r
+lower-walked : {w v : List ℕ} {n k x c r d i : ℕ} → r ≤ d → ScansAll w v n k x c r i → InvAll w v n k x c d i r
 lower-walked {w} {c = c} {r} {d} h s =
     record { kept = s .kept; upto = h; sim = λ t l vs z rows. s .sim t l vs z (lower w c r d l h rows) }
+
+-- ---- the others, one by one: for every walk over the first r entries that led to the words w₁
+pub record Onward (w₁ w : List ℕ) (n x v c d i r k : ℕ) : Type 0 where
+  pub sim : (w₀ : List ℕ) (y : ℕ) → CanScanAll w₀ n y c d i → ScansAll w₀ w₁ n y x c r i → InvAll w₀ w n y v c d i k
+
+pub onward-start : (w : List ℕ) (n x c d i r : ℕ) → r ≤ d → Onward w w n x x c d i r r
+onward-start w n x c d i r h = record { sim = λ w₀ y can s. lower-walked h s }
+
+pub onward-step :
+    {w₁ w u : List ℕ} {n x v z c d i r k row : ℕ} → Onward w₁ w n x v c d i r k → k < d → row ≡ word w (statement-cell k c)
+    → Scans w u n v z row i → Onward w₁ u n x z c d i r (k + 1)
+onward-step o h e s = record { sim = λ w₀ y can a. all-step (o .sim w₀ y can a) can h e s }
