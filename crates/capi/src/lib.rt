@@ -1,5 +1,5 @@
 // The operation and look-up for programs in other languages: document 01's numbers in place of enums.
-// `include/janorembe.h` declares both; what they promise is in `specs/Promise.antt`. Nothing is asked of a caller.
+// `include/janorembe.h` declares them; what they promise is in `specs/Promise.antt`. Nothing is asked of a caller.
 use crate::numbers::answer_number;
 use crate::numbers::answer_place;
 use crate::numbers::diags_length;
