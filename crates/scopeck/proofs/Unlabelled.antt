@@ -20,7 +20,7 @@ use Rattle.facts.specs.States.{state-at, view-at, given-at}
 use Rattle.facts.proofs.Sense.{kind-none}
 use Rattle.history.specs.Accepted.{no-diags, accepted, is-essential, is-disjoint}
 use Rattle.history.proofs.Active.{rows-next}
-use Rattle.stream.specs.Wrote.{Wrote}
+use Rattle.stream.specs.Wrote.{Wrote, WroteOrKept}
 use Rattle.stream.specs.Diagnostic.{diagnostic}
 use Rattle.stream.proofs.Records.{wrote-diag}
 use Rattle.slots.specs.Marks.{Marks}
@@ -85,7 +85,7 @@ module _ {w q out out′ : List ℕ} {n : ℕ} {st s : Scope} {k p f en : ℕ} {
       }
 
   -- ---- a nested `$c`
-  pub constant-nested : word w (statement-cell k 0) ≡ 1 → en ≢ none-end → (p ≡ st .diags + 18) × Wrote out out′ (st .diags) p (diag-record (diagnostic 13 (r .at .0) 0 0)) → GivesPart w w q out out′ n st s k
+  pub constant-nested : word w (statement-cell k 0) ≡ 1 → en ≢ none-end → (p ≡ st .diags + 18) × WroteOrKept out out′ (st .diags) p (diag-record (diagnostic 13 (r .at .0) 0 0)) → GivesPart w w q out out′ n st s k
   unfolding give.give-c
   constant-nested kw ne x =
       record {
@@ -95,7 +95,7 @@ module _ {w q out out′ : List ℕ} {n : ℕ} {st s : Scope} {k p f en : ℕ} {
             let eg : given-at l k ≡ give.only (diag 13 (stmt l k .at) 0 0) = given-by l k ek ∙ rw o in
             rw es
             (rejected b {d = diag 13 (stmt l k .at) 0 0} (kept-none n 12 12 6 7 w) (b .stands .marks) eg (λ i. omega (arith, i)) (omega (arith, x .0))
-            (same-told (wrote-diag 13 (r .at .0) 0 0 (x .1)) (ap (λ (y : ℕ). diag 13 y 0 0) (sym (here-of b e .at)))));
+            (same-told (wrote-diag 13 (r .at .0) 0 0 (x .1 .wrote)) (ap (λ (y : ℕ). diag 13 y 0 0) (sym (here-of b e .at)))));
       }
 
 -- ---- a nested `$v`

@@ -5,6 +5,7 @@ use paper::TokenIndex;
 use paper::TokenOffset;
 
 pub mod cells;
+pub mod global;
 pub mod look;
 pub mod mark;
 pub mod stack;
