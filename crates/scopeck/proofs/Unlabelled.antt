@@ -32,7 +32,7 @@ use Rattle.checks.specs.Walks.{WalkOuter, WalkNested, CheckedDv}
 use Rattle.checks.proofs.Ones.{same-told}
 use Rattle.scopeck.specs.declared.Scope.{Scope}
 use Rattle.scopeck.specs.declared.Row.{Row}
-use Rattle.scopeck.specs.Scope.{row-of, part-of, moved, with-disjoint, Ready, Given, Gives, GivesPart}
+use Rattle.scopeck.specs.Scope.{row-of, part-of, moved, with-disjoint, Ready, Given, GivesPart}
 use Rattle.scopeck.proofs.Ready.{apart-of, kind-c, kind-v, kind-d, kind-of, row-room, here-of, walk-of, here-part, walk-part}
 use Rattle.scopeck.proofs.Gives.{given-by, accept-some, told-some, told-nothing, nested-next, hyps-next, atoms-fit, entry-room, ess-still, dis-still, quiet, rejected}
 
@@ -164,10 +164,10 @@ module _ {w v out out′ : List ℕ} {n : ℕ} {st : Scope} {k p : ℕ} {r : Row
   dv-few : {t : List ℕ} {l : List Statement} (b : Ready t w n l st k) → p ≤ st .diags + 604000000
   dv-few b = let g = walk-of b e in omega (arith, x .few, g .atoms .rows, g .room .small)
 
-  pub dv-rejected : {s : Scope} → s ≡ moved st p → p ≢ st .diags → Gives w v out out′ n st s k
+  pub dv-rejected : {q : List ℕ} {s : Scope} → s ≡ moved st p → p ≢ st .diags → GivesPart w v q out out′ n st s k
   dv-rejected es ne =
       record {
-        sim = λ {t} {l} b.
+        sim = λ {t} {l} b pq.
             let d = check-disjoint l (view-at l k) (stmt l k) in
             let g = dv-told b in
             let h = told-some d (g .1) ne in
@@ -175,11 +175,11 @@ module _ {w v out out′ : List ℕ} {n : ℕ} {st : Scope} {k p : ℕ} {r : Row
             (rejected b {d = d} (x .kept) (g .0) (dv-given l k (kind-d (stmt l k .kind) (kind-of b kw)) ∙ accept-some d _ [] h) h (dv-few b) (g .1));
       }
 
-  pub dv-accepted : {u : List ℕ} {s : Scope} → s ≡ with-disjoint st p → p ≡ st .diags → u ≡ set v (statement-cell (st .ds) 11) k → Gives w u out out′ n st s k
+  pub dv-accepted : {u q : List ℕ} {s : Scope} → s ≡ with-disjoint st p → p ≡ st .diags → u ≡ set v (statement-cell (st .ds) 11) k → GivesPart w u q out out′ n st s k
   unfolding accepted
   dv-accepted {u} es eq eu =
       record {
-        sim = λ {t} {l} b.
+        sim = λ {t} {l} b pq.
             let ek = kind-d (stmt l k .kind) (kind-of b kw) in
             let d = check-disjoint l (view-at l k) (stmt l k) in
             let g = dv-told b in
