@@ -28,7 +28,7 @@ use Rattle.stream.specs.Diagnostic.{diagnostic}
 use Rattle.stream.proofs.Wrote.{wrote-as}
 use Rattle.stream.proofs.Records.{wrote-diag}
 use Rattle.paper.specs.declared.TokenOffset.{TokenOffset}
-use Rattle.slots.specs.declared.StatementRow.{StatementRow}
+use Rattle.paper.specs.declared.StatementRow.{StatementRow}
 use Rattle.slots.specs.declared.FloatSlot.{FloatSlot}
 use Rattle.slots.specs.declared.FloatSlot.the-variants as floating
 use Rattle.slots.specs.declared.MarkSlot.{MarkSlot}
