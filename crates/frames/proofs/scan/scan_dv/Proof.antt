@@ -31,14 +31,11 @@ loop-holds c = onward-start _ _ _ _ _ _ _ (c .before .before .before .before .lo
 statement-requires : tie.Need-statement-requires Inv-loop μ-loop
 statement-requires c κs = let b = all-bounds (c .before .loop .inv .sim _ _ (c .before .before .before .before .before .before .before .before .before .pre) (c .before .before .before .before .scan-all .ensures)) (c .before .before .before .before .before .before .before .before .before .pre) (search needs) in omega (arith, c .before .before .before .before .before .before .before .before .before .pre .column)
 
-mul-row : tie.Need-mul-row Inv-loop μ-loop
-mul-row c = let b = all-bounds (c .before .before .loop .inv .sim _ _ (c .before .before .before .before .before .before .before .before .before .before .pre) (c .before .before .before .before .before .scan-all .ensures)) (c .before .before .before .before .before .before .before .before .before .before .pre) (search needs) in omega (arith, c .before .before .before .before .before .before .before .before .before .before .pre .column)
+mul-t16 : tie.Need-mul-t16 Inv-loop μ-loop
+mul-t16 c = let b = all-bounds (c .before .before .loop .inv .sim _ _ (c .before .before .before .before .before .before .before .before .before .before .pre) (c .before .before .before .before .before .scan-all .ensures)) (c .before .before .before .before .before .before .before .before .before .before .pre) (search needs) in omega (arith, c .before .before .before .before .before .before .before .before .before .before .pre .column)
 
-slice-read-row : tie.Need-slice-read-row Inv-loop μ-loop
-slice-read-row c = let b = all-bounds (c .before .before .before .loop .inv .sim _ _ (c .before .before .before .before .before .before .before .before .before .before .before .pre) (c .before .before .before .before .before .before .scan-all .ensures)) (c .before .before .before .before .before .before .before .before .before .before .before .pre) (search needs) in omega (arith, c .before .before .before .before .before .before .before .before .before .before .before .pre .column)
-
-cast-row : tie.Need-cast-row Inv-loop μ-loop
-cast-row c = omega (arith, c .slice-known3 .given (c .before .statement .result))
+slice-read-t18 : tie.Need-slice-read-t18 Inv-loop μ-loop
+slice-read-t18 c = let b = all-bounds (c .before .before .before .loop .inv .sim _ _ (c .before .before .before .before .before .before .before .before .before .before .before .pre) (c .before .before .before .before .before .before .scan-all .ensures)) (c .before .before .before .before .before .before .before .before .before .before .before .pre) (search needs) in omega (arith, c .before .before .before .before .before .before .before .before .before .before .before .pre .column)
 
 scan-requires : tie.Need-scan-requires Inv-loop μ-loop
 scan-requires c κs = rw (word-at (c .before .before .before .before .loop .work) (c .before .before .statement .ensures)) (all-can (c .before .before .before .before .loop .inv .sim _ _ (c .before .before .before .before .before .before .before .before .before .before .before .before .pre) (c .before .before .before .before .before .before .before .scan-all .ensures)) (c .before .before .before .before .before .before .before .before .before .before .before .before .pre) (search needs))
@@ -68,9 +65,8 @@ scan-dv-spec =
     scan-all-requires
     loop-holds
     statement-requires
-    mul-row
-    slice-read-row
-    cast-row
+    mul-t16
+    slice-read-t18
     scan-requires
     add-k
     loop-less
