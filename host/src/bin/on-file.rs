@@ -1,12 +1,15 @@
 //! The operation on a file.
 //!
 //! `on-file TEXT FRAMES DIAGNOSTICS` writes both streams to files and prints number, place and used lengths.
-//! `on-file --time TEXT ROUNDS` prints, in ms, the best time over buffers that were touched before, the best over buffers that
+//! `on-file --time TEXT ROUNDS` prints, in ms of processor time, the best over buffers that were touched before, the best over buffers that
 //! were not, and the best time that clearing the work area alone takes.
 
+#[path = "../../../bench/cpu.rs"]
+mod cpu;
+
+use cpu::Instant;
 use janorembe::{check, streams};
 use std::hint::black_box;
-use std::time::Instant;
 
 fn read(path: &str) -> Vec<u8> {
     std::fs::read(path).unwrap_or_else(|e| fail(&format!("{path}: {e}")))
