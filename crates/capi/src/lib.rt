@@ -1,5 +1,5 @@
 // The operation and look-up for programs in other languages: document 01's numbers in place of enums.
-// `include/janorembe.h` declares both; what they promise is in `specs/Promise.antt`. Nothing is asked of a caller.
+// `include/janorembe.h` declares them; what they promise is in `specs/Promise.antt`. Nothing is asked of a caller.
 use crate::numbers::answer_number;
 use crate::numbers::answer_place;
 use crate::numbers::diags_length;
@@ -9,6 +9,7 @@ use crate::numbers::lookup_place;
 ghost use Rattle.capi.specs.Promise.{Checked, Looked};
 
 pub mod numbers;
+pub mod view;
 
 /// The number of `catalogue::check`; its place and both used lengths go into `answer`.
 #[no_mangle]
