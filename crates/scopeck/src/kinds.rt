@@ -12,16 +12,31 @@ use checks::walks::check_eap;
 use checks::walks::float_tokens;
 use checks::walks::walk_nested;
 use checks::walks::walk_outer;
+use paper::StatementOffset;
 use paper::StatementRow;
 use paper::TokenIndex;
 use slots::cells::of_statement;
 use slots::look::record_float;
 use slots::stack::push;
-use stream::record::put_diag;
+use stream::state::DiagState;
+use stream::state::push_diagnostic;
 ghost use mathlib.Core.Path.{_≡_};
-ghost use Prim.Native.Nat.{_≤_};
+ghost use Prim.Native.Nat.{_+_, _<_, _≤_, _^_};
 ghost use Rattle.area.specs.Cells.{statement-cell, word};
+ghost use Rattle.paper.specs.Records.{diag-record};
 ghost use Rattle.scopeck.specs.Scope.{SomePart, GivesPart};
+ghost use Rattle.stream.specs.Diagnostic.{diagnostic};
+ghost use Rattle.stream.specs.Wrote.{WroteOrKept};
+
+/// Kind 13: a `$c` in a block. The writer's state is made here and lent to `push_diagnostic`.
+pub fn put_nested_constant(out: &mut [u8], at: usize, s: StatementOffset) -> usize
+    requires { ⌜ at + 18 < 2 ^ 64 ⌝ }
+    ensures { λ r. ⌜ (r ≡ at + 18) × WroteOrKept (now (out .entry)) (now (out .exit)) at r (diag-record (diagnostic 13 (s .0) 0 0)) ⌝ }
+{
+    let mut told = DiagState { used: at, count: 0 };
+    push_diagnostic(&mut told, out, 13, s, TokenIndex(0), 0);
+    told.used
+}
 
 /// `$c`, whose math string is `part`: a nested one declares nothing.
 pub fn scope_check_constant(
@@ -42,7 +57,7 @@ pub fn scope_check_constant(
         let p = walk_outer(part, work, n, diags, st.diags, x.first, from, x.at);
         return move_to(st, p);
     }
-    let p = put_diag(diags, st.diags, 13, x.at, TokenIndex(0), 0);
+    let p = put_nested_constant(diags, st.diags, x.at);
     move_to(st, p)
 }
 

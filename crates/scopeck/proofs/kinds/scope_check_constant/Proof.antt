@@ -10,7 +10,7 @@ use Rattle.checks.proofs.walks.walk_outer.Reads as walk-outer-reads
 use Rattle.scopeck.proofs.rows.move_to.Reads as move-to-reads
 use Rattle.scopeck.proofs.rows.read_row.Reads as read-row-reads
 use Rattle.slots.proofs.cells.of_statement.Reads as of-statement-reads
-use Rattle.stream.proofs.record.put_diag.Reads as put-diag-reads
+use Rattle.scopeck.proofs.kinds.put_nested_constant.Reads as put-nested-constant-reads
 
 read-row-requires : tie.Need-read-row-requires
 read-row-requires c κs = (c .before .before .before .pre .0 .holds .room, row-room (c .before .before .before .pre .0 .holds))
@@ -33,8 +33,8 @@ same-length c = search needs
 returns : tie.Need-returns
 returns c = constant-outer (c .before .before .before .before .before .before .before .before .read-row .ensures) (c .before .before .before .before .before .before .before .of-statement .ensures) (c .before .before .before .before .before .before .of-statement2 .ensures) (c .move-to .ensures) (c .before .before .before .before .before .before .before .before .before .before .before .before .pre .1) (c .before .before .before .before .before .if1 .taken) (c .before .before .before .walk-outer .ensures)
 
-put-diag-requires : tie.Need-put-diag-requires
-put-diag-requires c κs = omega (arith, small-place (c .before .before .before .before .before .before .before .before .pre .0 .holds))
+put-nested-constant-requires : tie.Need-put-nested-constant-requires
+put-nested-constant-requires c κs = omega (arith, small-place (c .before .before .before .before .before .before .before .before .pre .0 .holds))
 
 move-to-requires-2 : tie.Need-move-to-requires-2
 move-to-requires-2 c κs = search needs
@@ -43,7 +43,7 @@ same-length-2 : tie.Need-same-length-2
 same-length-2 c = search needs
 
 returns-2 : tie.Need-returns-2
-returns-2 c = constant-nested (c .before .before .before .before .before .before .before .before .read-row .ensures) (c .before .before .before .before .before .before .before .of-statement .ensures) (c .before .before .before .before .before .before .of-statement2 .ensures) (c .move-to2 .ensures) (c .before .before .before .before .before .before .before .before .before .before .before .before .pre .1) (c .before .before .before .before .before .if1 .left) (c .before .before .before .put-diag .ensures)
+returns-2 c = constant-nested (c .before .before .before .before .before .before .before .before .read-row .ensures) (c .before .before .before .before .before .before .before .of-statement .ensures) (c .before .before .before .before .before .before .of-statement2 .ensures) (c .move-to2 .ensures) (c .before .before .before .before .before .before .before .before .before .before .before .before .pre .1) (c .before .before .before .before .before .if1 .left) (c .before .before .before .put-nested-constant .ensures)
 
 pub scope-check-constant-spec : {M : Type 1} → statement M
 scope-check-constant-spec =
@@ -56,7 +56,7 @@ scope-check-constant-spec =
     move-to-requires
     same-length
     returns
-    put-diag-requires
+    put-nested-constant-requires
     move-to-requires-2
     same-length-2
     returns-2)
