@@ -7,7 +7,6 @@ import random
 
 # a step of the hash of a name (crates/nameck/src/intern.rt)
 FACTOR, MODULUS = 2654435769, 2 ** 32
-SYMBOLS = "abcdefghijklmnopqrstuvwxyz0123456789"
 
 
 def one_label(k):
@@ -77,27 +76,28 @@ def common_front(k, length):
     yield "$.\n"
 
 
-def hashed(word):
-    h = 0
-    for b in word.encode():
-        h = (h + b) * FACTOR % MODULUS
-    return h
-
-
-def pair():
-    """Two words of five bytes with one hash: then all words made of so many of them have one hash."""
-    r, seen = random.Random(7), {}
-    while True:
-        word = "".join(r.choice(SYMBOLS) for _ in range(5))
-        other = seen.setdefault(hashed(word), word)
-        if other != word:
-            return other, word
+def one_hash_words(count):
+    """Words of six bytes with one hash: then all names made of so many of them have one hash."""
+    bytes_of = [b for b in range(33, 127) if b != 36]
+    halves = [(x, y, z) for x in bytes_of for y in bytes_of for z in bytes_of]
+    powers = [pow(FACTOR, 6 - i, MODULUS) for i in range(6)]
+    last = {}
+    for h in halves:
+        last.setdefault(sum(b * p for b, p in zip(h, powers[3:])) % MODULUS, h)
+    found = []
+    for h in halves:
+        rest = last.get((12345 - sum(b * p for b, p in zip(h, powers[:3]))) % MODULUS)
+        if rest:
+            found.append(bytes(h + rest).decode())
+            if len(found) == count:
+                return found
+    raise ValueError("too few words with one hash")
 
 
 def one_hash(k, length):
-    u, v = pair()
+    words = one_hash_words(48)
     yield "$c "
-    yield from ("x" * length + "".join(v if i >> j & 1 else u for j in range(17)) + " " for i in range(k))
+    yield from ("x" * length + words[i % 48] + words[i // 48 % 48] + words[i // 2304 % 48] + " " for i in range(k))
     yield "$.\n"
 
 
@@ -145,8 +145,8 @@ CASES = [
     ("one statement with so many tokens", 250_000, 1_000_000, "text", long_statement),
     ("so many names with a common front of 8", 250_000, 1_000_000, "text", lambda k: common_front(k, 8)),
     ("so many names with a common front of 1,440", 2_875, 11_500, "text", lambda k: common_front(k, 1_440)),
-    ("so many names of 85 bytes with one hash", 25_000, 100_000, "text", lambda k: one_hash(k, 0)),
-    ("so many with one hash and a common front of 1,365", 2_875, 11_500, "names times front", lambda k: one_hash(k, 1_365)),
+    ("so many names of 18 bytes with one hash", 25_000, 100_000, "text", lambda k: one_hash(k, 0)),
+    ("so many with one hash and a common front of 1,430", 2_875, 11_500, "names times front", lambda k: one_hash(k, 1_430)),
     ("so many `$f`, as many assertions", 37_500, 150_000, "text", floats_and_assertions),
     ("so many outermost `$e`, as many assertions", 500, 1_000, "output", essentials),
     ("so many `$` in a comment", 4 * MIB, 16 * MIB, "text", dollars),

@@ -2,7 +2,7 @@
 -- Rows rise, so no math token is counted twice: that bounds the places.
 use mathlib.Core.Path.{_≡_, refl, sym, ap, _∙_}
 use mathlib.Core.List.{List, [], _∷_, _++_}
-use Prim.Native.Nat.{ℕ, zero, suc, _+_, _*_, _<_, _≤_}
+use Prim.Native.Nat.{ℕ, zero, suc, _+_, _-_, _*_, _<_, _≤_}
 use native.Mathlib.Omega.{arith}
 use native.Mathlib.Numerals.{add-one}
 use lib.ListN.{length, length-append}
@@ -13,7 +13,8 @@ use Rattle.paper.proofs.Lists.{gather-append}
 use Rattle.paper.proofs.Gather.{gather-one}
 use Rattle.area.specs.Cells.{statement-cell, word}
 use Rattle.stream.specs.Wrote.{Wrote}
-use Rattle.stream.proofs.Wrote.{wrote-none, wrote-then, wrote-as}
+use Rattle.stream.proofs.Wrote.{wrote-none, wrote-then, wrote-as, wrote-to}
+use Rattle.stream.proofs.Front.{wrote-front}
 use Rattle.sight.specs.Sums.{sum}
 use Rattle.sight.specs.Static.{stack}
 use Rattle.forms.specs.Words.{count-of, constants-of, sizes-to, essential-row, stack-constants, stack-size, RowWords, Before, StackWords, SomeRow, SomeStack}
@@ -129,19 +130,21 @@ module _ {t w : List ℕ} {n : ℕ} {l : List Statement} {vs : List (List ℕ)} 
 
 -- ---- the pool
 module _ {t w : List ℕ} {n es row : ℕ} (g : StackWords t w n es) (h : RowWords t w n row) (o : Before w es (word w (statement-cell row 5))) where
-  pub pool-put : {b b₁ b₂ b₃ : List ℕ} {at p q r x y : ℕ} → StackLength w n es x
-      → (y ≤ 16777216 * count-of w row) × (y ≡ sizes-to w n row (count-of w row))
-      → (p ≡ at + 4) × Wrote b b₁ at p (u32 (x + y))
-      → PutStack t w n es b₁ b₂ p q
-      → (r ≤ q + 16777216 * count-of w row) × Wrote b₂ b₃ q r (constants-of t w n row)
+  pub pool-after : {b b₁ b₂ : List ℕ} {p q r : ℕ} → PutStack t w n es b b₁ p q
+      → (r ≤ q + 16777216 * count-of w row) × Wrote b₁ b₂ q r (constants-of t w n row) → p ≤ r
+  pool-after s c = omega (arith, s .wrote .place, c .1 .place)
+
+  pub pool-put : {b b₁ b₂ b₃ : List ℕ} {at q r v : ℕ} → PutStack t w n es b b₁ (at + 4) q
+      → (r ≤ q + 16777216 * count-of w row) × Wrote b₁ b₂ q r (constants-of t w n row)
+      → (v ≡ at + 4) × Wrote b₂ b₃ at v (u32 (r - (at + 4)))
       → PutPool t w n es row b b₃ at r
   unfolding string
-  pool-put {x = x} {y = y} u v a s c =
-      let z : x + y ≡ length (stack-constants t w n es ++ constants-of t w n row) =
-      omega (arith, u .is, v .1, stack-sizes g, sizes-are h, length-append (stack-constants t w n es) (constants-of t w n row)) in
+  pool-put {at = at} {q = q} {r = r} s c a =
+      let z : r - (at + 4) ≡ length (stack-constants t w n es ++ constants-of t w n row) =
+      omega (arith, s .wrote .place, c .1 .place, length-append (stack-constants t w n es) (constants-of t w n row)) in
       record {
-        few = omega (arith, a .0, s .few (word w (statement-cell row 5)) o, c .0, h .tokens);
+        few = omega (arith, s .few (word w (statement-cell row 5)) o, c .0, h .tokens);
         sim = λ l vs m k j.
-            wrote-as (wrote-then (wrote-as (a .1) (ap u32 (sym z))) (wrote-then (s .wrote) (c .1)))
+            wrote-as (wrote-front (wrote-then (s .wrote) (c .1)) (wrote-to (wrote-as (a .1) (ap u32 (sym z))) (sym (a .0))))
             (ap string (ap (λ e. e ++ row-pool l row) (sym (stack-is m es j)) ∙ ap (λ e. stack-constants t w n es ++ e) (sym (constants-are m row k))));
       }

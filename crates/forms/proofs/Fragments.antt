@@ -21,38 +21,8 @@ use Rattle.stream.proofs.Wrote.{wrote-none, wrote-then, wrote-as}
 use Rattle.sight.specs.Sums.{sum}
 use Rattle.forms.specs.declared.expression.Reached.{Reached}
 use Rattle.forms.specs.Words.{atom-at, count-of, constant-size, sizes-to, variable-size, variables-to, starts, piece-by, pieces, SomeRow, RowNumbers}
-use Rattle.forms.specs.Spelling.{CanPutSymbol, PutSymbol, spelling}
+use Rattle.forms.specs.Spelling.{CanPutSymbol, PutSymbol, spelling, PutFragments}
 use Rattle.forms.proofs.Constants.{sum-from, sizes-can}
-
--- ---- the variables are counted
-pub record InvVariables (w : List ℕ) (n row s i : ℕ) : Type 0 where
-  pub few : s ≤ i - 1
-  pub from : 1 ≤ i
-  pub upto : i ≤ word w (statement-cell row 6)
-  pub is : s ≡ variables-to w n row i
-
-pub variables-begin : {w : List ℕ} {n row : ℕ} → SomeRow w n row → InvVariables w n row 0 1
-unfolding variables-to sum
-variables-begin h = record { few = omega arith; from = omega arith; upto = h .words .some; is = refl }
-
-pub variables-step : {w : List ℕ} {n row s r i x k : ℕ} → InvVariables w n row s i → x ≡ atom-at w n row i → i < word w (statement-cell row 6)
-    → k ≡ word w (symbol-cell n x 5) → (r ≤ 1) × (r ≡ variable-size k) → InvVariables w n row (s + r) (i + 1)
-unfolding variables-to
-variables-step {w} {n} {row} {s} {r} {i} {x} {k} h e l q y =
-    let z : r ≡ variable-size (word w (symbol-cell n (atom-at w n row i) 5)) =
-    y .1 ∙ ap variable-size q ∙ ap (λ a. variable-size (word w (symbol-cell n a 5))) e in
-    record {
-      few = omega (arith, h .few, h .from, y .0);
-      from = omega arith;
-      upto = omega arith;
-      is = omega (arith, h .is, z, sum-from (λ j. variable-size (word w (symbol-cell n (atom-at w n row j) 5))) i (h .from));
-    }
-
-pub variables-end : {w : List ℕ} {n row s i : ℕ} → InvVariables w n row s i → word w (statement-cell row 6) ≤ i
-    → (s ≤ count-of w row) × (s ≡ variables-to w n row (count-of w row))
-variables-end {w} {n} {row} {s} {i} h l =
-    let e : i ≡ count-of w row = omega (arith, h .upto) in
-    (omega (arith, h .few, h .upto), h .is ∙ ap (variables-to w n row) e)
 
 -- ---- one fragment, one symbol
 pub fragment-put : {b b₁ b₂ b₃ : List ℕ} {at p q r : ℕ} (from to k : ℕ) → (p ≡ at + 4) × Wrote b b₁ at p (u32 from) → (q ≡ p + 4) × Wrote b₁ b₂ p q (u32 to)
@@ -61,7 +31,7 @@ unfolding fragment-bytes
 fragment-put from to k x y z = (omega (arith, x .0, y .0, z .0), wrote-then (x .1) (wrote-then (y .1) (z .1)))
 
 module _ {w : List ℕ} {n a k s : ℕ} {p : Reached} (h : CanPutSymbol w n p a) (e : k ≡ word w (symbol-cell n a 5)) (z : (s ≤ 16777216) × (s ≡ constant-size w n a)) where
-  pub symbol-constant : (b : List ℕ) → k ≡ none-end → PutSymbol w n b b p (record { at = p .at; from = p .from; to = p .to + s }) a
+  pub symbol-constant : (b : List ℕ) → k ≡ none-end → PutSymbol w n b b p (record { at = p .at; from = p .from; to = p .to + s; variables = p .variables }) a
   unfolding gather
   symbol-constant b d =
       let c : eqb (word w (symbol-cell n a 5)) none-end ≡ true = eq-eqb _ _ (sym e ∙ d) in
@@ -70,12 +40,13 @@ module _ {w : List ℕ} {n a k s : ℕ} {p : Reached} (h : CanPutSymbol w n p a)
         starts-at = rw c;
         size = omega (arith, z .0, z .1);
         stops-at = ap (λ x. p .to + x) (z .1);
+        counted = rw c (omega arith);
         wrote = rw c (wrote-none b (p .at));
       }
 
   pub symbol-variable : {b b′ : List ℕ} {q : ℕ} → k ≢ none-end
       → (q ≡ p .at + 10) × Wrote b b′ (p .at) q (fragment-bytes (record { from = p .from; to = p .to; variable = k - 1 }))
-      → PutSymbol w n b b′ p (record { at = q; from = p .to; to = p .to + s }) a
+      → PutSymbol w n b b′ p (record { at = q; from = p .to; to = p .to + s; variables = p .variables + 1 }) a
   symbol-variable d x =
       let c : eqb (word w (symbol-cell n a 5)) none-end ≡ false = ne-eqb _ _ (λ y. d (e ∙ y)) in
       record {
@@ -83,11 +54,15 @@ module _ {w : List ℕ} {n a k s : ℕ} {p : Reached} (h : CanPutSymbol w n p a)
         starts-at = rw c;
         size = omega (arith, z .0, z .1);
         stops-at = ap (λ y. p .to + y) (z .1);
+        counted = rw c;
         wrote = rw c
             (wrote-as (x .1)
             (gather-one fragment-bytes (record { from = p .from; to = p .to; variable = word w (symbol-cell n a 5) - 1 })
             ∙ ap (λ y. fragment-bytes (record { from = p .from; to = p .to; variable = y - 1 })) (sym e)));
       }
+
+one-most : (k : ℕ) → variable-size k ≤ 1
+one-most k = split (eqb k none-end) (λ e. rw e (omega arith)) (λ e. rw e (omega arith))
 
 -- ---- the walk
 module _ (w : List ℕ) (n row a i : ℕ) (h : 1 ≤ i) where
@@ -117,6 +92,10 @@ module _ (w : List ℕ) (n row a i : ℕ) (h : 1 ≤ i) where
   unfolding sizes-to
   sizes-next = sum-from (λ j. constant-size w n (atom-at w n row j)) i h
 
+  variables-next : variables-to w n row (i + 1) ≡ variables-to w n row i + variable-size (word w (symbol-cell n (atom-at w n row i) 5))
+  unfolding variables-to
+  variables-next = sum-from (λ j. variable-size (word w (symbol-cell n (atom-at w n row j) 5))) i h
+
 pub record InvFragments (w b₀ b : List ℕ) (n row a at : ℕ) (p : Reached) (i : ℕ) : Type 0 where
   pub few : p .at ≤ at + 10 * (i - 1)
   pub high : p .to ≤ a + 16777216 * i
@@ -125,11 +104,13 @@ pub record InvFragments (w b₀ b : List ℕ) (n row a at : ℕ) (p : Reached) (
   pub upto : i ≤ word w (statement-cell row 6)
   pub begins : p .from ≡ starts w n row a (i - 1)
   pub stops : p .to ≡ a + sizes-to w n row i
+  pub rare : p .variables ≤ i - 1
+  pub counted : p .variables ≡ variables-to w n row i
   pub wrote : Wrote b₀ b at (p .at) (gather fragment-bytes (pieces w n row a (i - 1)))
 
 pub fragments-begin : {w : List ℕ} {n row : ℕ} (b : List ℕ) (a at : ℕ) → SomeRow w n row
-    → InvFragments w b b n row a at (record { at = at; from = a; to = a }) 1
-unfolding starts sizes-to sum pieces gather
+    → InvFragments w b b n row a at (record { at = at; from = a; to = a; variables = 0 }) 1
+unfolding starts sizes-to variables-to sum pieces gather
 fragments-begin b a at h =
     record {
       few = omega arith;
@@ -139,6 +120,8 @@ fragments-begin b a at h =
       upto = h .words .some;
       begins = refl;
       stops = sym (add-zero a);
+      rare = omega arith;
+      counted = refl;
       wrote = wrote-none b at;
     }
 
@@ -151,6 +134,7 @@ module _ {w b₀ b : List ℕ} {n row a at i x : ℕ} {p : Reached} (h : InvFrag
         at = omega (arith, h .few, h .upto, g .words .tokens, g .words .small);
         from = omega (arith, h .low, h .high, h .upto, g .words .tokens, g .words .small);
         to = omega (arith, h .high, h .upto, g .words .tokens, g .words .small);
+        variables = omega (arith, h .rare, h .upto, g .words .tokens, g .words .small);
       }
 
   pub fragments-step : {b′ : List ℕ} {r : Reached} → PutSymbol w n b b′ p r x → InvFragments w b₀ b′ n row a at r (i + 1)
@@ -172,6 +156,8 @@ module _ {w b₀ b : List ℕ} {n row a at i x : ℕ} {p : Reached} (h : InvFrag
             ∙ ap (λ z. choose (eqb k none-end) (starts w n row a (i - 1)) z) (h .stops)
             ∙ sym (starts-next w n row a i (h .some));
         stops = omega (arith, y .stops-at, d, h .stops, sizes-next w n row a i (h .some));
+        rare = omega (arith, h .rare, h .some, y .counted, one-most (word w (symbol-cell n x 5)));
+        counted = omega (arith, y .counted, h .counted, ap variable-size f, variables-next w n row a i (h .some));
         wrote = wrote-as (wrote-then (h .wrote) (y .wrote))
             (ap (gather fragment-bytes) (pieces-next w n row a i (h .some))
             ∙ gather-append fragment-bytes (pieces w n row a (i - 1)) (piece-by k (starts w n row a (i - 1)) (a + sizes-to w n row i))
@@ -182,12 +168,15 @@ module _ {w b₀ b : List ℕ} {n row a at i x : ℕ} {p : Reached} (h : InvFrag
 
 pub fragments-end : {w b₀ b b₁ b₂ : List ℕ} {n row a at i q r : ℕ} {p : Reached} → SomeRow w n row → InvFragments w b₀ b n row a at p i → word w (statement-cell row 6) ≤ i
     → (q ≡ p .at + 4) × Wrote b b₁ (p .at) q (u32 (p .from)) → (r ≡ q + 4) × Wrote b₁ b₂ q r (u32 (p .to))
-    → (r ≤ at + 8 + 10 * n) × Wrote b₀ b₂ at r (spelling w n row a)
+    → PutFragments w n row a b₀ b₂ at (record { at = r; from = p .from; to = p .to; variables = p .variables })
 unfolding spelling
 fragments-end {w} {n = n} {row = row} {a = a} {i = i} g h l x y =
-    let e : count-of w row ≡ i = omega (arith, h .upto) in (
-      omega (arith, x .0, y .0, h .few, h .upto, g .words .tokens),
-      rw e
+    let e : count-of w row ≡ i = omega (arith, h .upto) in
+    record {
+      few = omega (arith, x .0, y .0, h .few, h .upto, g .words .tokens);
+      pooled = record { is = rw e (h .stops); few = omega (arith, e, h .high) };
+      counted = rw e (h .counted);
+      wrote = rw e
           (wrote-then (h .wrote)
-          (wrote-then (wrote-as (x .1) (ap u32 (sym (h .begins)))) (wrote-as (y .1) (ap u32 (sym (h .stops)))))),
-    )
+          (wrote-then (wrote-as (x .1) (ap u32 (sym (h .begins)))) (wrote-as (y .1) (ap u32 (sym (h .stops))))));
+    }

@@ -3,7 +3,7 @@
 use mathlib.Core.Path.{_≡_, refl, sym, ap, _∙_}
 use mathlib.Core.Bool.{true, false}
 use mathlib.Core.List.{List, _++_}
-use Prim.Native.Nat.{ℕ, zero, suc, _+_, _-_, _*_, _<_, _≤_}
+use Prim.Native.Nat.{ℕ, zero, suc, _+_, _-_, _<_, _≤_}
 use native.Mathlib.Omega.{arith}
 use lib.Dec.{eqb}
 use lib.ListN.{length}
@@ -18,13 +18,15 @@ use Rattle.paper.proofs.Tests.{split, clash}
 use Rattle.paper.proofs.Names.{grown-member}
 use Rattle.area.specs.Cells.{statement-cell, symbol-cell, word}
 use Rattle.stream.specs.Wrote.{Wrote}
-use Rattle.stream.proofs.Wrote.{wrote-then, wrote-as}
+use Rattle.stream.proofs.Wrote.{wrote-then, wrote-to, wrote-as}
+use Rattle.stream.proofs.Front.{wrote-front}
 use Rattle.reader.specs.Rows.{stmt}
 use Rattle.sight.specs.Static.{constant-name, static}
 use Rattle.sight.proofs.Sums.{sum-same}
 use Rattle.forms.specs.Words.{name-bytes, atom-at, word-symbol, body-of, count-of, sizes-to, variable-size, variables-to, starts, piece-by, pieces, RowWords, RowNumbers}
 use Rattle.forms.specs.Ready.{Spelled}
-use Rattle.forms.specs.Spelling.{spelling, PutExpression}
+use Rattle.forms.specs.Spelling.{spelling, PutFragments, PutExpression}
+use Rattle.forms.specs.declared.expression.Reached.{Reached}
 use Rattle.forms.proofs.Read.{name-at, number-at, number-constant, number-variable, count-is, body-is, constants-are}
 use Rattle.forms.proofs.Constants.{sum-gather, sizes-at, sizes-are}
 use Rattle.forms.proofs.Formulas.{rump-more, fragments-more, begun-by, fragment-by, variable-by, length-fragments, fragments-grown, token-variable}
@@ -135,18 +137,17 @@ module _ {t w : List ℕ} {n row : ℕ} {l : List Statement} {vs m : List (List 
   unfolding expression-bytes expression spelling static
   spelled-as = rw (spelled-typecode, spelled-variables, spelled-pieces, spelled-rump, spelled-pool)
 
-pub expression-put : {t w b b₁ b₂ b₃ : List ℕ} {n row a x at p q r v : ℕ} → RowWords t w n row → x ≡ atom-at w n row 0
-    → (v ≤ count-of w row) × (v ≡ variables-to w n row (count-of w row))
+pub expression-put : {t w b b₁ b₂ b₃ : List ℕ} {n row a x at p v : ℕ} {r : Reached} → RowWords t w n row → x ≡ atom-at w n row 0
     → (p ≤ at + 16777220) × Wrote b b₁ at p (string (name-bytes t w n x))
-    → (q ≡ p + 4) × Wrote b₁ b₂ p q (u32 v)
-    → (r ≤ q + 8 + 10 * n) × Wrote b₂ b₃ q r (spelling w n row a)
-    → PutExpression t w n row a b b₃ at r
-expression-put {t} {w} {n = n} {a = a} h e c y u z =
+    → PutFragments w n row a b₁ b₂ (p + 4) r
+    → (v ≡ p + 4) × Wrote b₂ b₃ p v (u32 (r .variables))
+    → PutExpression t w n row a b b₃ at (r .at)
+expression-put {t} {w} {n = n} {a = a} h e y z u =
     record {
-      few = omega (arith, y .0, u .0, z .0);
+      few = omega (arith, y .0, z .few);
       sim = λ l vs m s.
           wrote-as
           (wrote-then (wrote-as (y .1) (ap (λ k. string (name-bytes t w n k)) (sym e)))
-          (wrote-then (wrote-as (u .1) (ap u32 (sym (c .1)))) (z .1)))
+          (wrote-front (z .wrote) (wrote-to (wrote-as (u .1) (ap u32 (sym (z .counted)))) (sym (u .0)))))
           (spelled-as h s a);
     }

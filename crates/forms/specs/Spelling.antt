@@ -14,7 +14,7 @@ use Rattle.stream.specs.Wrote.{Wrote}
 use Rattle.reader.specs.Rows.{stmt}
 use Rattle.sight.specs.Static.{static}
 use Rattle.forms.specs.declared.expression.Reached.{Reached}
-use Rattle.forms.specs.Words.{count-of, constant-size, sizes-to, starts, piece-by, pieces, SomeName}
+use Rattle.forms.specs.Words.{count-of, constant-size, sizes-to, variable-size, variables-to, starts, piece-by, pieces, SomeName}
 use Rattle.forms.specs.Ready.{Spelled}
 
 -- one symbol: the place in the buffer, and the fragment in hand in the pool
@@ -24,12 +24,14 @@ pub record CanPutSymbol (w : List ℕ) (n : ℕ) (p : Reached) (a : ℕ) : Type 
   pub at : p .at < 4611686018427387904
   pub from : p .from < 4611686018427387904
   pub to : p .to < 4611686018427387904
+  pub variables : p .variables < 4611686018427387904
 
 pub record PutSymbol (w : List ℕ) (n : ℕ) (b b′ : List ℕ) (p r : Reached) (a : ℕ) : Type 0 where
   pub few : r .at ≤ p .at + 10
   pub starts-at : r .from ≡ choose (eqb (word w (symbol-cell n a 5)) none-end) (p .from) (p .to)
   pub size : constant-size w n a ≤ 16777216
   pub stops-at : r .to ≡ p .to + constant-size w n a
+  pub counted : r .variables ≡ p .variables + variable-size (word w (symbol-cell n a 5))
   pub wrote : Wrote b b′ (p .at) (r .at) (gather fragment-bytes (piece-by (word w (symbol-cell n a 5)) (p .from) (p .to)))
 
 -- the fragments of a row and its rump
@@ -37,6 +39,17 @@ unfoldable pub spelling : List ℕ → ℕ → ℕ → ℕ → List ℕ
 spelling w n row a =
     gather fragment-bytes (pieces w n row a (count-of w row - 1))
     ++ (u32 (starts w n row a (count-of w row - 1)) ++ u32 (a + sizes-to w n row (count-of w row)))
+
+-- the constants of a row stand in the pool from a up to z
+pub record Pooled (w : List ℕ) (n row a z : ℕ) : Type 0 where
+  pub is : z ≡ a + sizes-to w n row (count-of w row)
+  pub few : z ≤ a + 16777216 * count-of w row
+
+pub record PutFragments (w : List ℕ) (n row a : ℕ) (b b′ : List ℕ) (at : ℕ) (r : Reached) : Type 0 where
+  pub few : r .at ≤ at + 8 + 10 * n
+  pub pooled : Pooled w n row a (r .to)
+  pub counted : r .variables ≡ variables-to w n row (count-of w row)
+  pub wrote : Wrote b b′ at (r .at) (spelling w n row a)
 
 -- the expression of a row whose constants stand in the pool from a on
 pub record PutExpression (t w : List ℕ) (n row a : ℕ) (b b′ : List ℕ) (at r : ℕ) : Type 0 where

@@ -8,43 +8,19 @@ use paper::StatementRow;
 use paper::TokenIndex;
 use paper::VariableNumber;
 ghost use mathlib.Core.Path.{_≡_};
-ghost use Prim.Native.Nat.{_+_, _*_, _<_, _≤_, _^_};
+ghost use Prim.Native.Nat.{_+_, _<_, _^_};
 ghost use Rattle.paper.specs.Records.{fragment-bytes};
 ghost use Rattle.stream.specs.Wrote.{Wrote};
-ghost use Rattle.forms.specs.Words.{count-of, variable-size, variables-to, RowWords, RowNumbers, SomeRow};
-ghost use Rattle.forms.specs.Spelling.{CanPutSymbol, PutSymbol, spelling, PutExpression};
+ghost use Rattle.forms.specs.Words.{RowWords, RowNumbers, SomeRow};
+ghost use Rattle.forms.specs.Spelling.{CanPutSymbol, PutSymbol, Pooled, PutFragments, PutExpression};
 
-/// The place reached in the buffer, and the fragment in hand: where it starts in the pool, and the place reached there.
+/// The place reached in the buffer; the fragment in hand: where it starts in the pool, and the place reached there; and the
+/// number of variables so far.
 pub struct Reached {
     pub at: usize,
     pub from: usize,
     pub to: usize,
-}
-
-/// 1 for a variable, 0 for a constant, by the word NUMBER of its name.
-pub fn one_variable(number: usize) -> usize
-    ensures { λ r. ⌜ (r ≤ 1) × (r ≡ variable-size number) ⌝ }
-{
-    if number == area::NO_END as usize {
-        return 0;
-    }
-    1
-}
-
-/// The number of variables of a row.
-pub fn count_variables(work: &[u32], n: usize, row: StatementRow) -> usize
-    requires { ⌜ SomeRow (now work) n (row .0) ⌝ }
-    ensures { λ r. ⌜ (r ≤ count-of (now (work .entry)) (row .0)) × (r ≡ variables-to (now (work .entry)) n (row .0) (count-of (now (work .entry)) (row .0))) ⌝ }
-{
-    let count = words::statement_word(work, row, area::COUNT);
-    let mut sum = 0;
-    let mut i = 1;
-    while i < count {
-        let atom = words::math_word(work, n, row, TokenIndex(i as u32));
-        sum += one_variable(words::symbol_word(work, n, atom, area::NUMBER));
-        i += 1;
-    }
-    sum
+    pub variables: usize,
 }
 
 /// A fragment that a variable of this number ends.
@@ -75,6 +51,7 @@ pub fn put_symbol(work: &[u32], n: usize, buf: &mut [u8], p: Reached, atom: Atom
             at: p.at,
             from: p.from,
             to: p.to + size,
+            variables: p.variables,
         };
     }
     let at = put_fragment(buf, p.at, p.from, p.to, VariableNumber((number - 1) as u32));
@@ -82,6 +59,7 @@ pub fn put_symbol(work: &[u32], n: usize, buf: &mut [u8], p: Reached, atom: Atom
         at: at,
         from: p.to,
         to: p.to + size,
+        variables: p.variables + 1,
     }
 }
 
@@ -93,15 +71,16 @@ pub fn put_fragments(
     at: usize,
     row: StatementRow,
     pool: usize,
-) -> usize
+) -> Reached
     requires { ⌜ SomeRow (now work) n (row .0) × RowNumbers (now work) n (row .0) × (at < 2 ^ 61) × (pool < 2 ^ 61) ⌝ }
-    ensures { λ r. ⌜ (r ≤ at + 8 + 10 * n) × Wrote (now (buf .entry)) (now (buf .exit)) at r (spelling (now (work .entry)) n (row .0) pool) ⌝ }
+    ensures { λ r. ⌜ PutFragments (now (work .entry)) n (row .0) pool (now (buf .entry)) (now (buf .exit)) at r ⌝ }
 {
     let count = words::statement_word(work, row, area::COUNT);
     let mut p = Reached {
         at: at,
         from: pool,
         to: pool,
+        variables: 0,
     };
     let mut i = 1;
     while i < count {
@@ -110,10 +89,36 @@ pub fn put_fragments(
         i += 1;
     }
     let a = stream::write::put_u32(buf, p.at, p.from as u64);
-    stream::write::put_u32(buf, a, p.to as u64)
+    let b = stream::write::put_u32(buf, a, p.to as u64);
+    Reached {
+        at: b,
+        from: p.from,
+        to: p.to,
+        variables: p.variables,
+    }
 }
 
-/// The expression of a row, whose constants stand in the pool from `pool` on.
+/// The expression of a row, whose constants stand in the pool from `pool` on; the number of its fragments comes last.
+pub fn put_spelled(
+    text: &[u8],
+    work: &[u32],
+    n: usize,
+    buf: &mut [u8],
+    at: usize,
+    row: StatementRow,
+    pool: usize,
+) -> Reached
+    requires { ⌜ RowWords (now text) (now work) n (row .0) × RowNumbers (now work) n (row .0) × (at < 2 ^ 60) × (pool < 2 ^ 60) ⌝ }
+    ensures { λ r. ⌜ PutExpression (now (text .entry)) (now (work .entry)) n (row .0) pool (now (buf .entry)) (now (buf .exit)) at (r .at) × Pooled (now (work .entry)) n (row .0) pool (r .to) ⌝ }
+{
+    let typecode = words::math_word(work, n, row, TokenIndex(0));
+    let a = names::put_name(text, work, n, buf, at, typecode);
+    let r = put_fragments(work, n, buf, a + 4, row, pool);
+    stream::write::put_u32(buf, a, r.variables as u64);
+    r
+}
+
+/// The same, by the place reached in the buffer alone.
 pub fn put_expression(
     text: &[u8],
     work: &[u32],
@@ -126,9 +131,6 @@ pub fn put_expression(
     requires { ⌜ RowWords (now text) (now work) n (row .0) × RowNumbers (now work) n (row .0) × (at < 2 ^ 60) × (pool < 2 ^ 60) ⌝ }
     ensures { λ r. ⌜ PutExpression (now (text .entry)) (now (work .entry)) n (row .0) pool (now (buf .entry)) (now (buf .exit)) at r ⌝ }
 {
-    let typecode = words::math_word(work, n, row, TokenIndex(0));
-    let variables = count_variables(work, n, row);
-    let a = names::put_name(text, work, n, buf, at, typecode);
-    let b = stream::write::put_u32(buf, a, variables as u64);
-    put_fragments(work, n, buf, b, row, pool)
+    let r = put_spelled(text, work, n, buf, at, row, pool);
+    r.at
 }

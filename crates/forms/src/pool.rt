@@ -114,7 +114,7 @@ pub fn stack_length(work: &[u32], n: usize, es: usize) -> usize
     sum
 }
 
-/// The pool string of `es` active `$e` and the assertion of a row.
+/// The pool string of `es` active `$e` and the assertion of a row: the bytes after the place of their number, and that last.
 pub fn put_pool(
     text: &[u8],
     work: &[u32],
@@ -127,9 +127,9 @@ pub fn put_pool(
     requires { ⌜ StackWords (now text) (now work) n es × RowWords (now text) (now work) n (row .0) × Before (now work) es (word (now work) (statement-cell (row .0) 5)) × (at < 2 ^ 59) ⌝ }
     ensures { λ r. ⌜ PutPool (now (text .entry)) (now (work .entry)) n es (row .0) (now (buf .entry)) (now (buf .exit)) at r ⌝ }
 {
-    let before = stack_length(work, n, es);
-    let last = constants_length(work, n, row);
-    let a = stream::write::put_u32(buf, at, (before + last) as u64);
+    let a = at + 4;
     let b = put_stack(text, work, n, buf, a, es);
-    put_constants(text, work, n, buf, b, row)
+    let c = put_constants(text, work, n, buf, b, row);
+    stream::write::put_u32(buf, at, (c - a) as u64);
+    c
 }

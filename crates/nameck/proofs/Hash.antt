@@ -1,16 +1,19 @@
 -- The hash of a name: made byte by byte, below 2^32, and so its bucket lies in the column.
 -- Assumes nothing.
 use mathlib.Core.Path.{_≡_, refl}
-use mathlib.Core.Bool.{false}
+use mathlib.Core.Bool.{true, false}
 use mathlib.Core.List.{List, [], _∷_}
-use Prim.Native.Nat.{ℕ, _+_, _*_, _/_, _%_, _^_, _<_, _≤_}
+use Prim.Native.Nat.{ℕ, suc, _+_, _*_, _/_, _%_, _^_, _<_, _≤_}
 use native.Mathlib.Nat.{mul-le-mul-right, div-le-self}
 use native.Mathlib.Numerals.{add-one}
 use native.Mathlib.Omega.{arith}
 use lib.Dec.{eqb}
 use lib.ListN.{length, getD, drop, drop-of-length-le, List·getD-eq-default}
 use lib.Seq.{drop-cons}
+use Rattle.paper.specs.Bytes.{white}
+use Rattle.token.specs.Words.{word}
 use Rattle.nameck.specs.Links.{hash-on, hash}
+use Rattle.nameck.specs.Naming.{HashedToken}
 
 -- ---- from a place on
 unfoldable pub hash-from : ℕ → List ℕ → ℕ → ℕ
@@ -53,3 +56,34 @@ pub bit-past : (s : List ℕ) (i p : ℕ) → length s ≤ i → eqb (getD s i 0
 bit-past s i p h =
     let e : getD s i 0 / p ≡ 0 = omega (arith, List·getD-eq-default s 0 h, div-le-self (getD s i 0) p) in
     rw e
+
+-- ---- the hash of the token at a place, made on the way to its end: h is that of its bytes before i
+pub record Hashing (q : List ℕ) (at h i : ℕ) : Type 0 where
+  pub stop : i + length (word (drop i q)) ≡ at + length (word (drop at q))
+  pub on : hash-on h (word (drop i q)) ≡ hash (word (drop at q))
+  pub small : h < 4294967296
+
+pub hashing-begin : (q : List ℕ) (at : ℕ) → Hashing q at 0 at
+hashing-begin q at = record { stop = refl; on = refl; small = omega arith }
+
+module _ {q : List ℕ} {at h i : ℕ} (x : Hashing q at h i) where
+  pub hashing-step : i < length q → white (getD q i 0) ≡ false → Hashing q at ((h + getD q i 0) * 2654435769 % 4294967296) (i + 1)
+  unfolding word hash-on
+  hashing-step l e =
+      let s : i + suc (length (word (drop (suc i) q))) ≡ at + length (word (drop at q)) = rw (drop-cons q i 0, e) at (x .stop) in
+      let o : hash-on ((h + getD q i 0) * 2654435769 % 4294967296) (word (drop (suc i) q)) ≡ hash (word (drop at q)) = rw (drop-cons q i 0, e) at (x .on) in
+      record { stop = rw add-one (omega (arith, s)); on = rw add-one o; small = omega arith }
+
+  stopped : word (drop i q) ≡ [] → HashedToken q at (record { stop = i; hash = h })
+  unfolding hash-on
+  stopped e =
+      let s : i + 0 ≡ at + length (word (drop at q)) = rw e at (x .stop) in
+      record { stop = omega (arith, s); hash = rw e at (x .on) }
+
+  pub hashing-white : i < length q → white (getD q i 0) ≡ true → HashedToken q at (record { stop = i; hash = h })
+  unfolding word
+  hashing-white l e = stopped (rw (drop-cons q i 0, e))
+
+  pub hashing-end : length q ≤ i → HashedToken q at (record { stop = i; hash = h })
+  unfolding word
+  hashing-end l = stopped (rw (drop-of-length-le q l))

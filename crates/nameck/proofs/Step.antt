@@ -1,6 +1,6 @@
 -- One label and one math token: what interning asks of them, and that their stores take what is done one step on.
 -- Assumes nothing.
-use mathlib.Core.Path.{_≡_, refl, ap, _∙_}
+use mathlib.Core.Path.{_≡_, refl, sym, ap, _∙_}
 use mathlib.Core.Bool.{true, false}
 use mathlib.Core.List.{List, [], _∷_, _++_, append-nil}
 use Prim.Native.Nat.{ℕ, _+_, _-_, _*_, _<_, _≤_}
@@ -15,11 +15,12 @@ use Rattle.paper.proofs.Tests.{split}
 use Rattle.paper.proofs.Names.{see-self, sights-one}
 use Rattle.area.specs.Cells.{statement-cell, symbol-cell, math-cell, word}
 use Rattle.area.proofs.Laws.{word-other}
-use Rattle.token.specs.Words.{span-from}
-use Rattle.token.specs.declared.cursor.Span.{Span}
+use Rattle.token.specs.Words as words
+use Rattle.nameck.specs.Links.{hash}
+use Rattle.nameck.specs.declared.naming.Hashed.{Hashed}
 use Rattle.reader.specs.Rows.{stmt, kind-number, label-of, Stands}
 use Rattle.nameck.specs.Table.{CanIntern, Interns, noted, globally}
-use Rattle.nameck.specs.Naming.{Done, with-label, with-math, Progress, Ahead, AtToken, SomeToken, TokenNamed, AtLabel, SomeLabel, LabelNamed}
+use Rattle.nameck.specs.Naming.{HashedToken, Done, with-label, with-math, Progress, Ahead, AtToken, SomeToken, TokenNamed, AtLabel, SomeLabel, LabelNamed}
 use Rattle.nameck.proofs.Kept.{math-row}
 use Rattle.nameck.proofs.Part.{Lies, visible-lies}
 use Rattle.nameck.proofs.Column.{noted-other}
@@ -149,24 +150,26 @@ module _ {t q w : List ℕ} {n from row k m j : ℕ} (pj : j ≡ math-cell n row
     token-from : from ≤ getD w j 0
     token-from = omega (arith, token-at, token-lies .at)
 
-    token-stop : from + span-from q (getD w j 0 - from) (getD w j 0 - from) 4 .stop ≡ token (stmt (x .of) s) i .at + length (token (stmt (x .of) s) i .bytes)
-    unfolding span-from
-    token-stop =
+    token-word : words.word (drop (getD w j 0 - from) q) ≡ token (stmt (x .of) s) i .bytes
+    token-word =
         let e : getD w j 0 - from ≡ token-lies .off = omega (arith, token-at, token-lies .at) in
-        rw e (omega (arith, token-lies .at, ap length (token-lies .bytes)))
+        rw e (token-lies .bytes)
 
     token-early : getD w j 0 < 16777216
     token-early = omega (arith, token-at, token-stands .some, token-stands .within, h .progress .spans .short)
 
-    module _ {z : Span} (pz : z ≡ span-from q (getD w j 0 - from) (getD w j 0 - from) 4) where
+    module _ {z : Hashed} (pz : HashedToken q (getD w j 0 - from) z) where
       stop-of : from + z .stop ≡ token (stmt (x .of) s) i .at + length (token (stmt (x .of) s) i .bytes)
-      stop-of = ap (λ y. from + y .stop) pz ∙ token-stop
+      stop-of = omega (arith, pz .stop, ap length token-word, token-at, token-from)
 
       can-token : CanIntern t w n m (getD w j 0) (from + z .stop)
       can-token = can-intern (token (stmt (x .of) s) i) (h .progress) (h .ahead) token-stands token-at stop-of
 
       token-bytes : take ((from + z .stop) - getD w j 0) (drop (getD w j 0) t) ≡ token (stmt (x .of) s) i .bytes
       token-bytes = its-bytes (token (stmt (x .of) s) i) (h .progress) (h .ahead) token-stands token-at stop-of
+
+      token-hash : z .hash ≡ hash (take ((from + z .stop) - getD w j 0) (drop (getD w j 0) t))
+      token-hash = pz .hash ∙ ap hash (token-word ∙ sym token-bytes)
 
       token-step : {u v : List ℕ} {atom r b : ℕ} → Interns t w u n m (getD w j 0) (from + z .stop) atom r → b ≡ math-cell n row → v ≡ globally k (set u b atom) n atom (getD w j 0) → Progress t v n (with-math x k (token (stmt (x .of) s) i ∷ [])) r
       token-step {u} {v} {atom} {r} {b} y pb e =
@@ -186,7 +189,10 @@ module _ {t q w : List ℕ} {n from row k m j : ℕ} (pj : j ≡ math-cell n row
   pub some-early : SomeToken t q w n from row k m → getD w j 0 < 16777216
   some-early a = token-early (a .s) (a .i) (a .holds)
 
-  module _ {z : Span} (pz : z ≡ span-from q (getD w j 0 - from) (getD w j 0 - from) 4) where
+  module _ {z : Hashed} (pz : HashedToken q (getD w j 0 - from) z) where
+    pub some-hash : SomeToken t q w n from row k m → z .hash ≡ hash (take ((from + z .stop) - getD w j 0) (drop (getD w j 0) t))
+    some-hash a = token-hash (a .s) (a .i) (a .holds) pz
+
     pub some-token : SomeToken t q w n from row k m → CanIntern t w n m (getD w j 0) (from + z .stop)
     some-token a = can-token (a .s) (a .i) (a .holds) pz
 

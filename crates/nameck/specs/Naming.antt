@@ -17,7 +17,9 @@ use Rattle.reader.specs.Rows.{stmt, before, label-of, Stands, Shape, Rows}
 use Rattle.facts.specs.Facts.{Facts}
 use Rattle.nameck.specs.Atoms.{bytes-of, names-in, atoms, atom-of}
 use Rattle.nameck.specs.Named.{owner-word, global-word, Named, Fresh}
-use Rattle.nameck.specs.Links.{Linked}
+use Rattle.nameck.specs.Links.{hash, Linked}
+use Rattle.token.specs.Words as words
+use Rattle.nameck.specs.declared.naming.Hashed.{Hashed}
 use Rattle.nameck.specs.Table.{name-at, names-of, Spans}
 
 -- ---- what is done: of the statements, k labels and p math tokens; by that the names, bearers and declarations
@@ -127,6 +129,11 @@ pub record Progress (t w : List ℕ) (n : ℕ) (x : Done) (m : ℕ) : Type 0 whe
 pub record Ahead (x : Done) (b : List (List ℕ)) : Type 0 where
   pub rest : List (List ℕ)
   pub all : x .names ++ (b ++ rest) ≡ gather names-in (x .of)
+
+-- the token at a place of a part: where it stops, and the hash of its bytes
+pub record HashedToken (q : List ℕ) (i : ℕ) (r : Hashed) : Type 0 where
+  pub stop : r .stop ≡ i + length (words.word (drop i q))
+  pub hash : r .hash ≡ hash (words.word (drop i q))
 
 -- ---- what the steps ask and promise: each for all that may be done so far
 -- the math token in a row of the math column; q is the math string of its statement, which starts at `from`

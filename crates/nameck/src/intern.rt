@@ -3,8 +3,8 @@
 // follows one of them by the next bit of the hash, and after those by the bits of the bytes.
 use paper::Atom;
 ghost use mathlib.Core.Path.{_≡_};
-ghost use Prim.Native.Nat.{_+_, _*_, _<_, _≤_};
-ghost use lib.ListN.{length};
+ghost use Prim.Native.Nat.{_+_, _-_, _*_, _<_, _≤_};
+ghost use lib.ListN.{length, take, drop};
 ghost use Rattle.paper.specs.Base.{sameb};
 ghost use Rattle.nameck.specs.Table.{name-at, names-of, found, Spans, with-name, CanIntern, Interns};
 ghost use Rattle.nameck.specs.Links.{hash, head-by, fork, link, Linked, Ended};
@@ -99,12 +99,11 @@ pub struct Place {
     pub cell: usize,
 }
 
-/// The row + 1 of the name with these bytes; 0 if there is none.
-pub fn find(text: &[u8], work: &[u32], n: usize, names: usize, s: &[u8]) -> Place
-    requires { ⌜ Spans (now text) (now work) n names × Linked (now work) n names (name-at (now text) (now work) n) × (0 < n) ⌝ }
+/// The row + 1 of the name with these bytes and their hash; 0 if there is none.
+pub fn find(text: &[u8], work: &[u32], n: usize, names: usize, s: &[u8], h: u64) -> Place
+    requires { ⌜ Spans (now text) (now work) n names × Linked (now work) n names (name-at (now text) (now work) n) × (0 < n) × (h ≡ hash (now s)) ⌝ }
     ensures { λ r. ⌜ (r .row ≡ found (names-of (now (text .entry)) (now (work .entry)) n names) (now (s .entry))) × (r .row ≡ 0 → Ended (now (work .entry)) n (now (s .entry)) (r .cell)) ⌝ }
 {
-    let h = hash_of(s);
     let mut cell = head_of(n, h);
     let mut row = work[cell] as usize;
     let mut d = 0;
@@ -131,7 +130,7 @@ pub fn add_name(work: &mut [u32], n: usize, row: usize, start: usize, stop: usiz
     work[area::name(n, row, area::STOP)] = stop as u32;
 }
 
-/// The atom of the name from `start` to `stop`, made anew if no earlier name has its bytes.
+/// The atom of the name from `start` to `stop`, whose hash is h, made anew if no earlier name has its bytes.
 pub fn intern(
     text: &[u8],
     work: &mut [u32],
@@ -139,11 +138,12 @@ pub fn intern(
     names: usize,
     start: usize,
     stop: usize,
+    h: u64,
 ) -> Interned
-    requires { ⌜ CanIntern (now text) (now work) n names start stop ⌝ }
+    requires { ⌜ CanIntern (now text) (now work) n names start stop × (h ≡ hash (take (stop - start) (drop start (now text)))) ⌝ }
     ensures { λ r. ⌜ Interns (now (text .entry)) (now (work .entry)) (now (work .exit)) n names start stop (r .atom .0) (r .names) ⌝ }
 {
-    let p = find(text, work, n, names, &text[start..stop]);
+    let p = find(text, work, n, names, &text[start..stop], h);
     if p.row != 0 {
         return Interned {
             atom: Atom((p.row - 1) as u32),

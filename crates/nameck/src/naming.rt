@@ -1,15 +1,16 @@
 // Naming: each label and each math token becomes an atom, first bearers own their labels, first outermost `$c` and `$v`
 // tokens are global declarations. The math string of a statement goes in as a part of the text.
+use crate::intern::hash_of;
 use crate::intern::intern;
 use paper::Atom;
 use paper::TokenOffset;
-use token::cursor::Cursor;
+use token::class::class_of;
 ghost use mathlib.Core.Path.{_≡_};
 ghost use Prim.Native.Nat.{_+_, _*_, _<_, _≤_};
 ghost use lib.ListN.{length};
 ghost use Rattle.token.specs.Class.{classes};
 ghost use Rattle.nameck.specs.Table.{noted, globally};
-ghost use Rattle.nameck.specs.Naming.{declaring, SomeToken, TokenNamed, SomeMath, MathNamed, SomeLabel, LabelNamed, SomeStatement, StatementNamed, SomeRead, AllNamed};
+ghost use Rattle.nameck.specs.Naming.{HashedToken, declaring, SomeToken, TokenNamed, SomeMath, MathNamed, SomeLabel, LabelNamed, SomeStatement, StatementNamed, SomeRead, AllNamed};
 
 /// Writes a word that was not written before.
 pub fn note(work: &mut [u32], cell: usize, value: u32)
@@ -45,7 +46,8 @@ pub fn name_label(text: &[u8], work: &mut [u32], n: usize, s: usize, names: usiz
     }
     let at = work[area::statement(s, area::AT)] as usize;
     let stop = at + work[area::statement(s, area::LABEL)] as usize;
-    let got = intern(text, work, n, names, at, stop);
+    let h = hash_of(&text[at..stop]);
+    let got = intern(text, work, n, names, at, stop, h);
     work[area::statement(s, area::LABEL)] = got.atom.0;
     note(
         work,
@@ -53,6 +55,29 @@ pub fn name_label(text: &[u8], work: &mut [u32], n: usize, s: usize, names: usiz
         at as u32 + 1,
     );
     got.names
+}
+
+/// Where a token stops, and the hash of its bytes.
+pub struct Hashed {
+    pub stop: usize,
+    pub hash: u64,
+}
+
+/// Goes to the end of the token at a place of a part of the text, and makes its hash on the way.
+pub fn hash_token(table: &[u8; 256], part: &[u8], at: usize) -> Hashed
+    requires { ⌜ now table ≡ classes ⌝ }
+    ensures { λ r. ⌜ HashedToken (now (part .entry)) at r ⌝ }
+{
+    let mut h: u64 = 0;
+    let mut i = at;
+    while i < part.len() {
+        if class_of(table, part[i]) == 1 {
+            return Hashed { stop: i, hash: h };
+        }
+        h = (h + part[i] as u64) * 2654435769 % 4294967296;
+        i += 1;
+    }
+    Hashed { stop: i, hash: h }
 }
 
 /// Names the math token whose offset stands in a row of the math column: its atom takes the place of the offset.
@@ -72,8 +97,9 @@ pub fn name_token(
     ensures { λ r. ⌜ TokenNamed (now (text .entry)) (now (part .entry)) (now (work .entry)) (now (work .exit)) n from row kind names r ⌝ }
 {
     let at = work[area::math(n, row)] as usize;
-    let stop = from + Cursor { at: at - from }.to_white(table, part).stop;
-    let got = intern(text, work, n, names, at, stop);
+    let x = hash_token(table, part, at - from);
+    let stop = from + x.stop;
+    let got = intern(text, work, n, names, at, stop, x.hash);
     work[area::math(n, row)] = got.atom.0;
     let k = got.names;
     note_global(work, n, got.atom, kind, TokenOffset(at as u32));

@@ -91,6 +91,9 @@ pub fn put_raised(out: &mut [u8], at: usize, bytes: &[u8]) -> usize
     if n == 0 {
         return at;
     }
+    if n == 1 {
+        return put_byte(out, at, bytes[0] + 128);
+    }
     let last = n - 1;
     let a = put_bytes(out, at, &bytes[..last]);
     put_byte(out, a, bytes[last] + 128)

@@ -2,4 +2,5 @@ pub mod Classes
 pub mod Words
 pub mod Read
 pub mod Counts
+pub mod Weights
 pub mod Parts

@@ -23,8 +23,8 @@ statement-word-requires c κs = search needs
 loop-holds : tie.Need-loop-holds Inv-loop μ-loop
 loop-holds c = fragments-begin _ _ _ (c .before .before .before .pre .0)
 
-cast-t13 : tie.Need-cast-t13 Inv-loop μ-loop
-cast-t13 c = search needs
+cast-t14 : tie.Need-cast-t14 Inv-loop μ-loop
+cast-t14 c = search needs
 
 math-word-requires : tie.Need-math-word-requires Inv-loop μ-loop
 math-word-requires c κs = search needs
@@ -61,7 +61,7 @@ put-fragments-spec =
     μ-loop
     statement-word-requires
     loop-holds
-    cast-t13
+    cast-t14
     math-word-requires
     put-symbol-requires
     add-i

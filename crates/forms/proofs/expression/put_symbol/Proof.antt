@@ -35,11 +35,14 @@ put-fragment-requires c κs = search needs
 add-t9 : tie.Need-add-t9
 add-t9 c = search needs
 
+add-t16 : tie.Need-add-t16
+add-t16 c = search needs
+
 same-length : tie.Need-same-length
 same-length c = search needs
 
 returns-2 : tie.Need-returns-2
-returns-2 c = symbol-variable (c .before .before .before .before .before .before .before .before .before .before .pre) (c .before .before .before .before .before .before .symbol-word .ensures .0) (c .before .before .before .before .before .before .before .constant-length .ensures) (c .before .before .before .before .before .if1 .left) (c .before .before .before .put-fragment .ensures)
+returns-2 c = symbol-variable (c .before .before .before .before .before .before .before .before .before .before .before .pre) (c .before .before .before .before .before .before .before .symbol-word .ensures .0) (c .before .before .before .before .before .before .before .before .constant-length .ensures) (c .before .before .before .before .before .before .if1 .left) (c .before .before .before .before .put-fragment .ensures)
 
 pub put-symbol-spec : {M : Type 1} → statement M
 put-symbol-spec =
@@ -54,5 +57,6 @@ put-symbol-spec =
     cast-t14
     put-fragment-requires
     add-t9
+    add-t16
     same-length
     returns-2)

@@ -20,19 +20,19 @@ part-find-end : tie.Need-part-find-end
 part-find-end c = search needs
 
 find-requires : tie.Need-find-requires
-find-requires c κs = (c .before .before .before .before .pre .spans, c .before .before .before .before .pre .linked, omega (arith, c .before .before .before .before .pre .free))
+find-requires c κs = (c .before .before .before .before .pre .0 .spans, c .before .before .before .before .pre .0 .linked, omega (arith, c .before .before .before .before .pre .0 .free), c .before .before .before .before .pre .1)
 
-sub-t16 : tie.Need-sub-t16
-sub-t16 c = search needs
+sub-t17 : tie.Need-sub-t17
+sub-t17 c = search needs
 
-cast-t17 : tie.Need-cast-t17
-cast-t17 c = omega (arith, c .before .before .before .before .before .before .before .before .pre .spans .rows, c .before .before .before .before .before .before .before .before .pre .spans .small, found-few _ _ _ _ _ _ (c .before .before .before .find .ensures .0))
+cast-t18 : tie.Need-cast-t18
+cast-t18 c = omega (arith, c .before .before .before .before .before .before .before .before .pre .0 .spans .rows, c .before .before .before .before .before .before .before .before .pre .0 .spans .small, found-few _ _ _ _ _ _ (c .before .before .before .find .ensures .0))
 
 same-length : tie.Need-same-length
 same-length c = search needs
 
 returns : tie.Need-returns
-returns c = intern-old (c .before .before .before .before .before .before .before .before .pre) (c .before .before .before .find .ensures .0) (c .before .if1 .taken)
+returns c = intern-old (c .before .before .before .before .before .before .before .before .pre .0) (c .before .before .before .find .ensures .0) (c .before .if1 .taken)
 
 add-name-requires : tie.Need-add-name-requires
 add-name-requires c κs = search needs
@@ -44,22 +44,22 @@ add-work : tie.Need-add-work
 add-work c = search needs
 
 mul-work : tie.Need-mul-work
-mul-work c = omega (arith, ended-in (c .before .before .before .before .before .before .before .before .before .before .before .pre) (c .before .before .before .before .before .before .find .ensures .1 (c .before .before .before .before .if1 .left)), c .before .before .before .before .before .before .before .before .before .before .before .pre .spans .small)
+mul-work c = omega (arith, ended-in (c .before .before .before .before .before .before .before .before .before .before .before .pre .0) (c .before .before .before .before .before .before .find .ensures .1 (c .before .before .before .before .if1 .left)), c .before .before .before .before .before .before .before .before .before .before .before .pre .0 .spans .small)
 
 slice-write-work : tie.Need-slice-write-work
-slice-write-work c = omega (arith, ended-in (c .before .before .before .before .before .before .before .before .before .before .before .pre) (c .before .before .before .before .before .before .find .ensures .1 (c .before .before .before .before .if1 .left)), c .before .before .before .before .before .before .before .before .before .before .before .pre .spans .room, c .before .before .add-name .kept .0)
+slice-write-work c = omega (arith, ended-in (c .before .before .before .before .before .before .before .before .before .before .before .pre .0) (c .before .before .before .before .before .before .find .ensures .1 (c .before .before .before .before .if1 .left)), c .before .before .before .before .before .before .before .before .before .before .before .pre .0 .spans .room, c .before .before .add-name .kept .0)
 
-cast-t22 : tie.Need-cast-t22
-cast-t22 c = search needs
+cast-t23 : tie.Need-cast-t23
+cast-t23 c = search needs
 
-add-t12 : tie.Need-add-t12
-add-t12 c = search needs
+add-t13 : tie.Need-add-t13
+add-t13 c = search needs
 
 same-length-2 : tie.Need-same-length-2
 same-length-2 c = search needs
 
 returns-2 : tie.Need-returns-2
-returns-2 c = intern-new (c .before .before .before .before .before .before .before .before .before .before .before .pre) (c .before .before .before .before .before .before .find .ensures .0) (c .before .before .before .before .before .before .find .ensures .1) (c .before .before .before .before .if1 .left) (c .before .before .add-name .ensures) refl
+returns-2 c = intern-new (c .before .before .before .before .before .before .before .before .before .before .before .pre .0) (c .before .before .before .before .before .before .find .ensures .0) (c .before .before .before .before .before .before .find .ensures .1) (c .before .before .before .before .if1 .left) (c .before .before .add-name .ensures) refl
 
 pub intern-spec : {M : Type 1} → statement M
 intern-spec =
@@ -69,8 +69,8 @@ intern-spec =
     part-find-start
     part-find-end
     find-requires
-    sub-t16
-    cast-t17
+    sub-t17
+    cast-t18
     same-length
     returns
     add-name-requires
@@ -78,7 +78,7 @@ intern-spec =
     add-work
     mul-work
     slice-write-work
-    cast-t22
-    add-t12
+    cast-t23
+    add-t13
     same-length-2
     returns-2)

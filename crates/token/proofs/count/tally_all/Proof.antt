@@ -1,72 +1,28 @@
-use Prim.Native.Nat.{_-_}
-use lib.ListN.{length}
-use Rattle.token.proofs.Counts.{Tallied, tally-start, tally-step, tally-end}
 use borrow.Author.Needs.{needs}
 use Rattle.token.proofs.count.tally_all.Statement.{statement}
 use Rattle.token.proofs.count.tally_all.Tie as tie
 use Rattle.token.proofs.count.tally_all.Reads as reads
 use Rattle.token.proofs.count.tally_all.Lts as lts
-use Rattle.token.proofs.class.class_of.Reads as class-of-reads
-use Rattle.token.proofs.count.below_bit.Reads as below-bit-reads
-use Rattle.token.proofs.count.is_bit.Reads as is-bit-reads
+use Rattle.token.proofs.count.tally_bytes.Reads as tally-bytes-reads
+use Rattle.token.proofs.count.weigh_all.Reads as weigh-all-reads
+use Rattle.token.proofs.count.weights_of.Reads as weights-of-reads
 
-abbrev Inv-loop : tie.InvT-loop
-Inv-loop table text tokens₀ bads₀ before₀ i₀ tokens bads before i = Tallied text tokens bads before i
+weights-of-requires : tie.Need-weights-of-requires
+weights-of-requires c κs = search needs
 
-abbrev μ-loop : tie.MeasureT-loop
-μ-loop table text tokens₀ bads₀ before₀ i₀ tokens bads before i = length text - i
+weigh-all-requires : tie.Need-weigh-all-requires
+weigh-all-requires c κs = search needs
 
-loop-holds : tie.Need-loop-holds Inv-loop μ-loop
-loop-holds c = tally-start _
+returns : tie.Need-returns
+returns c = c .before .before .weigh-all .ensures (c .if2 .taken)
 
-shared-slice-read-class-of : tie.Need-shared-slice-read-class-of Inv-loop μ-loop
-shared-slice-read-class-of c = search needs
+tally-bytes-requires : tie.Need-tally-bytes-requires
+tally-bytes-requires c κs = search needs
 
-class-of-requires : tie.Need-class-of-requires Inv-loop μ-loop
-class-of-requires c κs = search needs
-
-is-bit-requires : tie.Need-is-bit-requires Inv-loop μ-loop
-is-bit-requires c κs = search needs
-
-below-bit-requires : tie.Need-below-bit-requires Inv-loop μ-loop
-below-bit-requires c κs = search needs
-
-add-tokens : tie.Need-add-tokens Inv-loop μ-loop
-add-tokens c = search needs
-
-is-bit-requires-2 : tie.Need-is-bit-requires-2 Inv-loop μ-loop
-is-bit-requires-2 c κs = search needs
-
-add-bads : tie.Need-add-bads Inv-loop μ-loop
-add-bads c = search needs
-
-add-i : tie.Need-add-i Inv-loop μ-loop
-add-i c = search needs
-
-loop-less : tie.Need-loop-less Inv-loop μ-loop
-loop-less c = search needs
-
-loop-again : tie.Need-loop-again Inv-loop μ-loop
-loop-again c = tally-step (c .before .before .before .before .before .before .loop .inv) (search needs) (c .before .before .before .class-of .ensures) (c .before .before .is-bit .ensures .0) (c .before .below-bit .ensures .0) (c .is-bit2 .ensures .0)
-
-returns : tie.Need-returns Inv-loop μ-loop
-returns c = tally-end (c .before .loop .inv) (search needs)
+returns-2 : tie.Need-returns-2
+returns-2 c = search needs
 
 pub tally-all-spec : {M : Type 1} → statement M
 tally-all-spec =
     tie.close
-    (tie.spec
-    Inv-loop
-    μ-loop
-    loop-holds
-    shared-slice-read-class-of
-    class-of-requires
-    is-bit-requires
-    below-bit-requires
-    add-tokens
-    is-bit-requires-2
-    add-bads
-    add-i
-    loop-less
-    loop-again
-    returns)
+    (tie.spec weights-of-requires weigh-all-requires returns tally-bytes-requires returns-2)
