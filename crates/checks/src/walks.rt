@@ -47,7 +47,7 @@ pub fn check_eap(
                 i += 1;
                 c = d;
             }
-            Visible::Open(_) => return p,
+            Visible::Refused(_) => return p,
             Visible::End => return p,
         }
     }
@@ -78,7 +78,7 @@ pub fn walk_dv(
                 i += 1;
                 c = d;
             }
-            Visible::Open(_) => return p,
+            Visible::Refused(_) => return p,
             Visible::End => return p,
         }
     }
@@ -121,7 +121,7 @@ pub fn float_tokens(part: &[u8], work: &[u32], n: usize, first: usize) -> FloatT
                 i += 1;
                 c = d;
             }
-            Visible::Open(_) => {
+            Visible::Refused(_) => {
                 return FloatTokens {
                     typecode: Atom(typecode),
                     variable: Atom(variable),
@@ -164,7 +164,7 @@ pub fn walk_outer(
                 i += 1;
                 c = d;
             }
-            Visible::Open(_) => return p,
+            Visible::Refused(_) => return p,
             Visible::End => return p,
         }
     }
@@ -199,7 +199,7 @@ pub fn walk_nested(
                 i += 1;
                 c = d;
             }
-            Visible::Open(_) => return p,
+            Visible::Refused(_) => return p,
             Visible::End => return p,
         }
     }
