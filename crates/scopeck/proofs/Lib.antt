@@ -1,3 +1,4 @@
+pub mod Kinds
 pub mod Ready
 pub mod Owners
 pub mod Gives
