@@ -1,4 +1,4 @@
-pub mod Kinds
+pub mod Numbers
 pub mod Ready
 pub mod Owners
 pub mod Gives

@@ -29,7 +29,7 @@ use Rattle.checks.proofs.OverPart.{map-at}
 use Rattle.scopeck.specs.declared.Scope.{Scope}
 use Rattle.scopeck.specs.declared.Row.{Row}
 use Rattle.scopeck.specs.Scope.{row-of, part-of, Ready}
-use Rattle.scopeck.proofs.Kinds.{kind-f, kind-large}
+use Rattle.scopeck.proofs.Numbers.{kind-f, kind-large}
 
 pub apart-of : (l : List Statement) → Apart l
 apart-of l =
