@@ -29,7 +29,7 @@ use Rattle.checks.proofs.Each.{Left, left-start, Taken, take-one, left-
 use Rattle.checks.proofs.OverRows.{here-kept, all-done}
 
 -- ---- the math tokens are those of the part, as far on as it starts
-map-at : (b : ℕ) (m : List Token) (i : ℕ) → i < length m → getD (map (move b) m) i no-token ≡ move b (getD m i no-token)
+pub map-at : (b : ℕ) (m : List Token) (i : ℕ) → i < length m → getD (map (move b) m) i no-token ≡ move b (getD m i no-token)
 map-at b [] i h = absurd (not-suc-le-zero h)
 map-at b (x ∷ m) zero h = refl
 map-at b (x ∷ m) (suc i) h = map-at b m i (omega (arith, h))

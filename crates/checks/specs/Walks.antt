@@ -20,7 +20,7 @@ use Rattle.slots.specs.Kept.{Room, Kept}
 use Rattle.slots.specs.Slots.{Nests, Floats, Atomic, Apart}
 use Rattle.slots.specs.Marks.{Atoms, Marks}
 use Rattle.checks.specs.Tokens.{HasFloat}
-use Rattle.checks.specs.Visible.{visible-from}
+use Rattle.checks.specs.Visible.{visible-from, Calm}
 
 pub record Walk (w : List ℕ) (n at f c : ℕ) : Type 0 where
   pub room : Room w n
@@ -78,6 +78,7 @@ pub record LastTwo (w : List ℕ) (n f c a b : ℕ) : Type 0 where
 pub record WalkPart (w q : List ℕ) (n at f b : ℕ) : Type 0 where
   pub walk : Walk w n at f (length (visible-from q 0))
   pub short : b + length q ≤ 16777216
+  pub calm : Calm q
 
 pub record HerePart (t w q : List ℕ) (n : ℕ) (l : List Statement) (k f b s : ℕ) : Type 0 where
   pub here : Here t w n l k f (length (visible-from q 0)) s

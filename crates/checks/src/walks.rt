@@ -19,7 +19,7 @@ ghost use mathlib.Core.Path.{_≡_};
 ghost use Prim.Native.Nat.{_+_, _≤_};
 ghost use lib.ListN.{length};
 ghost use Rattle.slots.specs.Kept.{Room};
-ghost use Rattle.checks.specs.Visible.{visible-from};
+ghost use Rattle.checks.specs.Visible.{visible-from, Calm};
 ghost use Rattle.checks.specs.Walks.{Walk, HasFloats, WalkEap, WalkDv, CheckedDv, LastTwo, WalkPart, WalkOuter, WalkNested};
 
 /// The tokens of a `$e`, `$a` or `$p`, whose math string is `part`.
@@ -32,7 +32,7 @@ pub fn check_eap(
     first: usize,
     s: StatementOffset,
 ) -> usize
-    requires { ⌜ Walk (now work) n at first (length (visible-from (now part) 0)) × HasFloats (now work) n first (length (visible-from (now part) 0)) ⌝ }
+    requires { ⌜ Walk (now work) n at first (length (visible-from (now part) 0)) × HasFloats (now work) n first (length (visible-from (now part) 0)) × Calm (now part) ⌝ }
     ensures { λ r. ⌜ WalkEap (now (work .entry)) (now (diags .entry)) (now (diags .exit)) n at r first (length (visible-from (now (part .entry)) 0)) (s .0) ⌝ }
 {
     let classes = table();
@@ -47,7 +47,7 @@ pub fn check_eap(
                 i += 1;
                 c = d;
             }
-            Visible::Open(_) => return p,
+            Visible::Refused(_) => return p,
             Visible::End => return p,
         }
     }
@@ -63,7 +63,7 @@ pub fn walk_dv(
     first: usize,
     s: StatementOffset,
 ) -> usize
-    requires { ⌜ Walk (now work) n at first (length (visible-from (now part) 0)) ⌝ }
+    requires { ⌜ Walk (now work) n at first (length (visible-from (now part) 0)) × Calm (now part) ⌝ }
     ensures { λ r. ⌜ WalkDv (now (work .entry)) (now (work .exit)) (now (diags .entry)) (now (diags .exit)) n at r first (length (visible-from (now (part .entry)) 0)) (s .0) ⌝ }
 {
     let classes = table();
@@ -78,7 +78,7 @@ pub fn walk_dv(
                 i += 1;
                 c = d;
             }
-            Visible::Open(_) => return p,
+            Visible::Refused(_) => return p,
             Visible::End => return p,
         }
     }
@@ -95,7 +95,7 @@ pub fn check_dv(
     count: usize,
     s: StatementOffset,
 ) -> usize
-    requires { ⌜ Walk (now work) n at first count × (length (visible-from (now part) 0) ≡ count) ⌝ }
+    requires { ⌜ Walk (now work) n at first count × (length (visible-from (now part) 0) ≡ count) × Calm (now part) ⌝ }
     ensures { λ r. ⌜ CheckedDv (now (work .entry)) (now (work .exit)) (now (diags .entry)) (now (diags .exit)) n at r first count (s .0) ⌝ }
 {
     let p = walk_dv(part, work, n, diags, at, first, s);
@@ -105,7 +105,7 @@ pub fn check_dv(
 
 /// The atoms of the last two tokens of `part`, the math string of a `$f`, which has just two.
 pub fn float_tokens(part: &[u8], work: &[u32], n: usize, first: usize) -> FloatTokens
-    requires { ⌜ Room (now work) n × (first + length (visible-from (now part) 0) ≤ n) ⌝ }
+    requires { ⌜ Room (now work) n × (first + length (visible-from (now part) 0) ≤ n) × Calm (now part) ⌝ }
     ensures { λ r. ⌜ LastTwo (now (work .entry)) n first (length (visible-from (now (part .entry)) 0)) (r .typecode .0) (r .variable .0) ⌝ }
 {
     let classes = table();
@@ -121,7 +121,7 @@ pub fn float_tokens(part: &[u8], work: &[u32], n: usize, first: usize) -> FloatT
                 i += 1;
                 c = d;
             }
-            Visible::Open(_) => {
+            Visible::Refused(_) => {
                 return FloatTokens {
                     typecode: Atom(typecode),
                     variable: Atom(variable),
@@ -164,7 +164,7 @@ pub fn walk_outer(
                 i += 1;
                 c = d;
             }
-            Visible::Open(_) => return p,
+            Visible::Refused(_) => return p,
             Visible::End => return p,
         }
     }
@@ -199,7 +199,7 @@ pub fn walk_nested(
                 i += 1;
                 c = d;
             }
-            Visible::Open(_) => return p,
+            Visible::Refused(_) => return p,
             Visible::End => return p,
         }
     }

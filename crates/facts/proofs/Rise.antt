@@ -10,7 +10,7 @@ use lib.ListN.{length, getD}
 use Rattle.paper.specs.Base.{all}
 use Rattle.paper.specs.Bytes.{white, math-byte}
 use Rattle.paper.specs.Tokens.{Token, put, run, toks, tokens, key, math-token}
-use Rattle.paper.specs.Comments.{Place, outside, inside, next, shown, visible}
+use Rattle.paper.specs.Comments.{Place, outside, inside, next, marked, shown, visible}
 use Rattle.paper.specs.Checks.{no-token}
 use Rattle.paper.proofs.Tests.{split}
 
@@ -63,7 +63,8 @@ shown-rise :
     → a ≤ x .at → 0 < length (x .bytes) → Rise (x .at + length (x .bytes)) b l → Rise a b (shown p x ++ l)
 shown-rise outside x g n r =
     split (key 40 x) (λ e. rw e (rise-from (omega arith) r)) (λ e. rw e (rise-more g n r))
-shown-rise (inside o) x g n r = rise-from (omega arith) r
+shown-rise (inside o) x g n r =
+    split (marked x) (λ e. rw e (rise-more g n r)) (λ e. rw e (rise-from (omega arith) r))
 
 pub visible-rise : {a b : ℕ} {l : List Token} (p : Place) → Rise a b l → Rise a b (visible l p)
 unfolding visible
@@ -72,7 +73,7 @@ visible-rise p (rise-more {x = x} g n r) = shown-rise p x g n (visible-rise (nex
 
 shown-few : (p : Place) (x : Token) (l : List Token) → length (shown p x ++ l) ≤ suc (length l)
 shown-few outside x l = split (key 40 x) (λ e. rw e (omega arith)) (λ e. rw e (omega arith))
-shown-few (inside o) x l = omega arith
+shown-few (inside o) x l = split (marked x) (λ e. rw e (omega arith)) (λ e. rw e (omega arith))
 
 pub visible-few : (l : List Token) (p : Place) → length (visible l p) ≤ length l
 unfolding visible

@@ -22,7 +22,7 @@ use Rattle.sight.specs.Static.{stack}
 use Rattle.sight.proofs.Numbering.{renumbered-none}
 use Rattle.slots.specs.Kept.{Room}
 use Rattle.scopeck.specs.declared.Scope.{Scope}
-use Rattle.scopeck.proofs.Ready.{kind-f}
+use Rattle.scopeck.proofs.Numbers.{kind-f}
 use Rattle.history.specs.Accepted.{accepted}
 use Rattle.frames.specs.declared.assert.Built.{Built}
 use Rattle.frames.specs.declared.assert.Built.the-variants.{After}

@@ -8,7 +8,7 @@ use native.Mathlib.Omega.{arith}
 use lib.ListN.{length, getD, drop}
 use Rattle.paper.specs.Bytes.{white}
 use Rattle.paper.specs.Tokens.{Token, put, run, toks, key}
-use Rattle.paper.specs.Comments.{Place, outside, inside, next, visible}
+use Rattle.paper.specs.Comments.{Place, outside, inside, next, marked, visible}
 use Rattle.paper.specs.Checks.{no-token}
 use Rattle.paper.proofs.Tests.{split}
 use Rattle.token.specs.Words.{word}
@@ -28,7 +28,9 @@ each-put P o (c ∷ b) l p h = each-cons P (record { at = o; bytes = c ∷ b }) 
 each-visible : (P : Token → Type 0) (l : List Token) (p : Place) → Each P l → Each P (visible l p)
 unfolding visible
 each-visible P [] p h = λ i k. absurd (not-suc-le-zero k)
-each-visible P (x ∷ l) (inside o) h = each-visible P l (next (inside o) x) (λ i k. h (suc i) (omega arith))
+each-visible P (x ∷ l) (inside o) h =
+    let r = each-visible P l (next (inside o) x) (λ i k. h (suc i) (omega arith)) in
+    split (marked x) (λ e. rw e (each-cons P x (visible l (next (inside o) x)) (h zero (omega arith)) r)) (λ e. rw e r)
 each-visible P (x ∷ l) outside h =
     split (key 40 x)
     (λ e. rw e (each-visible P l (inside (x .at)) (λ i k. h (suc i) (omega arith))))

@@ -6,7 +6,7 @@ use Prim.Native.Nat.{_≤_}
 use native.Mathlib.Omega.{arith}
 use lib.ListN.{length, length-append}
 use Rattle.paper.specs.Tokens.{Token, key}
-use Rattle.paper.specs.Comments.{Place, outside, inside, next, after, shown, visible}
+use Rattle.paper.specs.Comments.{Place, outside, inside, next, after, marked, shown, visible}
 use Rattle.paper.proofs.Tests.{split}
 
 pub after-append : (l m : List Token) (p : Place) → after (l ++ m) p ≡ after m (after l p)
@@ -23,7 +23,7 @@ visible-append (x ∷ l) m p =
 
 shown-few : (p : Place) (x : Token) → length (shown p x) ≤ 1
 shown-few outside x = split (key 40 x) (λ e. rw e (omega arith)) (λ e. rw e (omega arith))
-shown-few (inside o) x = omega arith
+shown-few (inside o) x = split (marked x) (λ e. rw e (omega arith)) (λ e. rw e (omega arith))
 
 pub visible-few : (l : List Token) (p : Place) → length (visible l p) ≤ length l
 unfolding visible

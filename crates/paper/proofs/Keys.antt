@@ -36,11 +36,11 @@ module _ (a b : ℕ) where
   pair-second (x ∷ y ∷ []) h e = rw (eq-eqb x a e) (split (eqb y b) (λ q. rw q) (λ q. rw q))
   pair-second (x ∷ y ∷ z ∷ l) h e = absurd (omega arith)
 
-dollar-math : math-byte 36 ≡ false
+pub dollar-math : math-byte 36 ≡ false
 unfolding math-byte printable
 dollar-math = refl
 
-dollar-label : label-byte 36 ≡ false
+pub dollar-label : label-byte 36 ≡ false
 unfolding label-byte
 dollar-label = refl
 

@@ -12,8 +12,10 @@ pub mod Edges
 pub mod Lookups
 pub mod Readings
 pub mod Measures
+pub mod Marked
 pub mod Searches
 pub mod Sums
 pub mod Gather
 pub mod Made
 pub mod Comments
+pub mod Allowed

@@ -25,9 +25,6 @@ cases =
     -- the third math token of a `$f`: 5 there
     (lent (codes "a $f b c d") (old 96) [] []
     gives result 5 9 0 0 [] [] (zeros 96)) ∷
-    -- `$(` inside a comment is nothing special
-    (lent (codes "$( $( $)") (old 64) [] []
-    gives result 0 0 0 0 [] [] (zeros 64)) ∷
     -- a comment open at the end of an unfinished statement: 4
     (lent (codes "$c $(") (old 48) [] []
     gives result 4 3 0 0 [] [] (zeros 48)) ∷

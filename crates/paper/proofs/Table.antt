@@ -9,7 +9,7 @@ use Rattle.paper.specs.Answer.{number, place, frames-used, diags-used, w
 use Rattle.paper.specs.Base.{choose, not, codes, sameb, all, any, keep, find, latest, gather, table}
 use Rattle.paper.specs.Bytes.{white, printable, label-byte, math-byte}
 use Rattle.paper.specs.Checks.{each, check-label, check-outer, verdict, records, nested-records, nested-diags, check-float, check-expression, first-index, check-disjoint}
-use Rattle.paper.specs.Comments.{after, visible}
+use Rattle.paper.specs.Comments.{after, bracketed, visible}
 use Rattle.paper.specs.Variables.{formula, sights, variables-of, index, mandatory}
 use Rattle.paper.specs.Expressions.{raised, pool-of, fragments, rump, expression, hypotheses}
 use Rattle.paper.specs.Pairs.{in-order, pairs-in, new-pairs, pairs, rows}
@@ -42,7 +42,7 @@ expected (l gives r) = r
 unfoldable pub operation : Lent → Result
 unfolding written outcome answer laid frames-exit diags-exit work-exit sameb all any keep find latest gather
     table white printable label-byte math-byte each check-label check-outer verdict records nested-records
-    nested-diags check-float check-expression first-index check-disjoint after visible formula sights
+    nested-diags check-float check-expression first-index check-disjoint after bracketed visible formula sights
     variables-of index raised pool-of fragments rump expression hypotheses in-order pairs-in new-pairs pairs
     rows mandatory frame-of give-c give-v give-d give-f give-e give-assertion give gives all-given labels
     owner declared global allow many items words reading le u16 u32 string framed diag-record fragment-bytes

@@ -125,14 +125,18 @@ finish (named t) d i n = refused (OpenText n)
 finish (math k o l m) d i n = refused (OpenText n)
 finish (proof o l m p) d i n = refused (OpenText n)
 
--- number 4: a comment never closed. It hides every token after it, so number 5 is always at an earlier token
+-- number 4: a comment never closed
 abbrev pub close : Place → Mode → ℕ → List Item → ℕ → Outcome (List Item)
 close outside m d i n = finish m d i n
 close (inside o) m d i n = refused (OpenComment o)
 
--- number 5: the token that the grammar does not allow
+-- number 5, at the token that the grammar does not allow; or 4, where a comment never closed begins at an earlier token
+abbrev pub earlier : ℕ → Place → Refusal
+earlier o outside = BadToken o
+earlier o (inside c) = choose (ltb c o) (OpenComment c) (BadToken o)
+
 abbrev pub ending : Step → Place → ℕ → Outcome (List Item)
-ending (stop o) p n = refused (BadToken o)
+ending (stop o) p n = refused (earlier o p)
 ending (go m d i) p n = close p m d i n
 
 -- what stands in a text of n bytes with these tokens, or number 4, 5 or 6

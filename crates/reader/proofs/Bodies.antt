@@ -14,18 +14,18 @@ use Rattle.paper.specs.Tokens.{Token, tokens, key, math-token}
 use Rattle.paper.specs.Statements.{Kind, $c, $v, $d, $f, $e, $a, $p, Item}
 use Rattle.paper.specs.Reader.{Mode, start, math, proof, Step, go, stop, room, least, closing, statement, closed, allow, with-items, refused, finish, items}
 use Rattle.paper.specs.declared.Refusal.{Refusal}
-use Rattle.paper.specs.declared.Refusal.the-variants.{OpenComment, BadToken, OpenText}
+use Rattle.paper.specs.declared.Refusal.the-variants.{BadToken, OpenText}
 use Rattle.paper.proofs.Tests.{split}
 use Rattle.token.specs.Words.{tokens-from, token-of}
 use Rattle.token.specs.declared.cursor.Span.{Span}
 use Rattle.token.specs.declared.cursor.Cursor.{Cursor}
 use Rattle.token.proofs.Counts.{few-tokens}
 use Rattle.reader.specs.Rows.{kind-number}
-use Rattle.reader.specs.Passed.{Shows, Seen}
+use Rattle.reader.specs.Passed.{Reached, Shows, Refuses, Seen}
 use Rattle.reader.specs.Kinds.{least-number, most-number, closing-number}
 use Rattle.reader.specs.Runs.{RunRoom, Running, Ran, Proved, closing-of}
 use Rattle.reader.specs.Kept.{with-row, RowRoom, next-state}
-use Rattle.reader.specs.Held.{Reached, Held, Begun, Stated}
+use Rattle.reader.specs.Held.{Held, Begun, Stated}
 use Rattle.reader.specs.declared.comment.Visible.{Visible}
 use Rattle.reader.specs.declared.comment.Visible.the-variants as vis
 use Rattle.reader.specs.declared.run.Run.{Run}
@@ -33,7 +33,7 @@ use Rattle.reader.specs.declared.run.Closing.the-variants as closing′
 use Rattle.reader.specs.declared.state.State.{State}
 use Rattle.reader.specs.declared.state.Head.{Head}
 use Rattle.reader.proofs.Passes.{passed-few}
-use Rattle.reader.proofs.Grammar.{many-math, many-proof, reached-run, reached-token, reached-few, refuse-token, refuse-open, reach-end}
+use Rattle.reader.proofs.Grammar.{many-math, many-proof, reached-run, reached-token, reached-few, refuse-token, reach-end}
 use Rattle.reader.proofs.Keeping.{words-statement}
 
 -- ---- kinds by their numbers
@@ -96,6 +96,9 @@ closed-plain $p h d o n m = absurd (h refl)
 module _ {t : List ℕ} {e c d : ℕ} {m : Mode} {i : List Item} (r : Reached t e c (go m d i)) (v : Visible) (s : Seen t e v) (z : Step) (count few : ℕ) (k : List ℕ)
     (f : (n : ℕ) → finish m d i n ≡ refused (OpenText n))
     (a : (x : Span) (p : Cursor) → v ≡ vis.Token x p → allow m d (token-of t x) ≡ choose (and (sameb (token-of t x .bytes) k) (leb few count)) z (stop (x .start))) where
+  before : {x : Span} {b : Cursor} → Shows t e x b → x .start < b .at
+  before h = omega (arith, h .whole .some, h .stands)
+
   pub close-refused : (y : Refusal) → closing′.Refused y ≡ closing-of t v count few k → items (tokens t) (length t) ≡ refused y
   close-refused y q = by v refl q
     where
@@ -103,9 +106,10 @@ module _ {t : List ℕ} {e c d : ℕ} {m : Mode} {i : List Item} (r : Reached t 
       by vis.End p q =
           let n : y ≡ OpenText (length t) = cc in
           reach-end r (rw p at s) (length t) ∙ f (length t) ∙ rw n
-      by (vis.Open o) p q =
-          let n : y ≡ OpenComment o = cc in
-          refuse-open r (rw p at s) (length t) ∙ rw n
+      by (vis.Refused o) p q =
+          let n : y ≡ o = cc in
+          let h : Refuses t e o = rw p at s in
+          h .items-are r ∙ rw n
       by (vis.Token x y′) p q =
           split (and (sameb (token-of t x .bytes) k) (leb few count))
           (λ b.
@@ -115,7 +119,7 @@ module _ {t : List ℕ} {e c d : ℕ} {m : Mode} {i : List Item} (r : Reached t 
           (λ b.
           let g : closing′.Refused y ≡ closing′.Refused (BadToken (x .start)) = q ∙ rw b in
           let n : y ≡ BadToken (x .start) = cc in
-          refuse-token (reached-token {z = stop (x .start)} r (rw p at s) (a x y′ p ∙ rw b)) (length t) ∙ rw n)
+          refuse-token (reached-token {z = stop (x .start)} r (rw p at s) (a x y′ p ∙ rw b)) (before (rw p at s)) (length t) ∙ rw n)
 
   pub close-at : (o : Cursor) → closing′.At o ≡ closing-of t v count few k
       → (length (tokens-from t (o .at)) < length (tokens-from t e)) × Reached t (o .at) (c + 1) (with-items i z) × (few ≤ count)
@@ -124,7 +128,7 @@ module _ {t : List ℕ} {e c d : ℕ} {m : Mode} {i : List Item} (r : Reached t 
       by : (u : Visible) → v ≡ u → closing′.At o ≡ closing-of t u count few k
           → (length (tokens-from t (o .at)) < length (tokens-from t e)) × Reached t (o .at) (c + 1) (with-items i z) × (few ≤ count)
       by vis.End p q = let w : _≡_ {A = ℕ} 0 1 = cc in absurd (omega arith)
-      by (vis.Open f) p q = let w : _≡_ {A = ℕ} 0 1 = cc in absurd (omega arith)
+      by (vis.Refused f) p q = let w : _≡_ {A = ℕ} 0 1 = cc in absurd (omega arith)
       by (vis.Token y y′) p q =
           split (sameb (token-of t y .bytes) k)
           (λ b₁. split (leb few count)

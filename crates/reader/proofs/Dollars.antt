@@ -1,4 +1,4 @@
--- The end of a comment by its bytes is its end by its tokens.
+-- The end of a comment by its bytes is its end by its tokens; what is visible in it are the tokens that may not stand there.
 -- Assumes nothing.
 use mathlib.Core.Path.{_≡_, refl, sym, ap, _∙_}
 use mathlib.Core.Logic.{_≢_}
@@ -13,23 +13,25 @@ use lib.Dec.{eqb}
 use lib.ListN.{length, getD, take, drop, drop-of-length-le}
 use lib.Seq.{drop-cons, drop-drop}
 use borrow.Author.Tests.{eq-eqb, ne-eqb, eqb-true}
-use Rattle.paper.specs.Base.{and, sameb}
+use Rattle.paper.specs.Base.{and, sameb, all, keep}
 use Rattle.paper.specs.Bytes.{white}
 use Rattle.paper.specs.Tokens.{Token, run, toks, key}
-use Rattle.paper.specs.Comments.{outside, inside, after, visible}
+use Rattle.paper.specs.Comments.{outside, inside, after, bracketed, marked, visible}
+use Rattle.paper.proofs.Comments.{after-append}
 use Rattle.paper.proofs.Tests.{split, clash, eqb-ne}
 use Rattle.token.specs.Words.{tokens-from}
 use Rattle.token.proofs.Classes.{white-low}
 use Rattle.token.proofs.Words.{tokens-end}
+use Rattle.reader.proofs.After.{tokens-after, all-kept-from}
 use Rattle.reader.specs.Dollar.{gap-first, shuts, closes-first, close-from, opens-at, seek, Dollar}
 use Rattle.reader.specs.Passed.{Commented}
 use Rattle.reader.specs.declared.comment.Comment.the-variants as comment
 
 -- ---- by the list
-white-plain : (b : ℕ) → white b ≡ true → eqb b 36 ≡ false
+pub white-plain : (b : ℕ) → white b ≡ true → eqb b 36 ≡ false
 white-plain b e = ne-eqb b 36 (λ q. omega (arith, q, white-low b e))
 
-and-none : (w : Bool) → and w false ≡ false
+pub and-none : (w : Bool) → and w false ≡ false
 and-none true = refl
 and-none false = refl
 
@@ -70,12 +72,12 @@ not-shuts (b ∷ c ∷ l) o e =
 pub record Shut (ts : List Token) (l : List ℕ) (o e : ℕ) : Type 0 where
   pub pre : List Token
   pub split-at : ts ≡ pre ++ toks (drop (e - o) l) e
-  pub hides : (p : ℕ) → visible pre (inside p) ≡ []
+  pub hides : (p : ℕ) → visible pre (inside p) ≡ keep marked pre
   pub leaves : (p : ℕ) → after pre (inside p) ≡ outside
   pub from : o < e
 
 abbrev Closes : List Token → List ℕ → ℕ → Option ℕ → Type 0
-Closes ts l o none = (p : ℕ) → (visible ts (inside p) ≡ []) × (after ts (inside p) ≡ inside p)
+Closes ts l o none = (p : ℕ) → (visible ts (inside p) ≡ keep marked ts) × (after ts (inside p) ≡ inside p)
 Closes ts l o (some e) = Shut ts l o e
 
 closes-shift : (ts : List Token) (b : ℕ) (l : List ℕ) (o : ℕ) (x : Option ℕ) → Closes ts l (suc o) x → Closes ts (b ∷ l) o x
@@ -85,14 +87,18 @@ closes-shift ts b l o (some e) h =
     let q : e - o ≡ suc (e - suc o) = omega arith in
     record { pre = h .pre; split-at = rw q (h .split-at); hides = h .hides; leaves = h .leaves; from = omega arith }
 
+visible-cons : (x : Token) (l : List Token) (p : ℕ) → key 41 x ≡ false → visible l (inside p) ≡ keep marked l → visible (x ∷ l) (inside p) ≡ keep marked (x ∷ l)
+unfolding visible keep
+visible-cons x l p k h = split (bracketed (x .bytes)) (λ b. rw (k, b, h)) (λ b. rw (k, b, h))
+
 closes-cons : (x : Token) (ts : List Token) (l : List ℕ) (o : ℕ) (y : Option ℕ) → key 41 x ≡ false → Closes ts l o y → Closes (x ∷ ts) l o y
 unfolding visible after
-closes-cons x ts l o none k h = λ p. rw k (h p)
+closes-cons x ts l o none k h = λ p. (visible-cons x ts p k (h p .0), rw k (h p .1))
 closes-cons x ts l o (some e) k h =
     record {
       pre = x ∷ h .pre;
       split-at = ap (λ r. x ∷ r) (h .split-at);
-      hides = λ p. rw k (h .hides p);
+      hides = λ p. visible-cons x (h .pre) p k (h .hides p);
       leaves = λ p. rw k (h .leaves p);
       from = h .from;
     }
@@ -100,7 +106,7 @@ closes-cons x ts l o (some e) k h =
 -- the token `$)` itself
 closes-here : (l : List ℕ) (o : ℕ) → shuts l ≡ true
     → Shut (record { at = o; bytes = 36 ∷ run l (suc o) .head } ∷ run l (suc o) .rest) (36 ∷ l) o (o + 2)
-unfolding visible after key sameb
+unfolding visible after key sameb keep bracketed
 closes-here l o e =
     let r = shuts-run l (suc o) e in
     let q : o + 2 - o ≡ 2 = omega arith in
@@ -108,7 +114,7 @@ closes-here l o e =
     record {
       pre = record { at = o; bytes = 36 ∷ run l (suc o) .head } ∷ [];
       split-at = rw (q, r .1, k);
-      hides = λ p. refl;
+      hides = λ p. rw (r .0);
       leaves = λ p. rw (r .0);
       from = omega arith;
     }
@@ -122,7 +128,7 @@ unfolding key sameb
 key-later b h o e f = rw e f
 
 closes : (l : List ℕ) (o : ℕ) → Closes (toks l o) l o (close-from l o true) × Closes (run l o .rest) l o (close-from l o false)
-unfolding run toks close-from visible after
+unfolding run toks close-from visible after keep
 closes [] o = (λ p. (refl, refl), λ p. (refl, refl))
 closes (b ∷ l) o =
     let h = closes l (suc o) in
@@ -173,13 +179,13 @@ module _ (t : List ℕ) (at i : ℕ) where
       let q : and (opens-at t at i) (closes-first (getD t i 0 ∷ drop (suc i) t)) ≡ true = rw (drop-cons t i 0 h) at e in
       rw (drop-cons t i 0 h, q)
 
--- from `$` to `$`
-pub seek-over : (t : List ℕ) (at i m : ℕ) → at ≤ i → i + m ≤ length t → ((j : ℕ) → i ≤ j → j < i + m → getD t j 0 ≢ 36) → seek t at (i + m) ≡ seek t at i
+-- over places where no `$)` starts
+pub seek-over : (t : List ℕ) (at i m : ℕ) → at ≤ i → i + m ≤ length t → ((j : ℕ) → i ≤ j → j < i + m → closes-first (drop j t) ≡ false) → seek t at (i + m) ≡ seek t at i
 seek-over t at i zero l h f = rw add-zero
 seek-over t at i (suc m) l h f =
     let q : i + suc m ≡ (i + m) + 1 = omega arith in
     let n : and (opens-at t at (i + m)) (closes-first (drop (i + m) t)) ≡ false =
-    rw (drop-cons t (i + m) 0 (omega arith), ne-eqb (getD t (i + m) 0) 36 (f (i + m) (omega arith) (omega arith))) (and-none (opens-at t at (i + m))) in
+    rw (f (i + m) (omega arith) (omega arith)) (and-none (opens-at t at (i + m))) in
     rw q
     (seek-step t at (i + m) (omega arith) (omega arith) n
     ∙ seek-over t at i m l (omega arith) (λ j a b. f j a (omega arith)))
@@ -188,38 +194,47 @@ pub seek-dollar : {t : List ℕ} {i k : ℕ} (at : ℕ) → at ≤ i → Dollar 
 seek-dollar {t} {i} {k} at l d =
     let f = d .from in
     let q : i + (k - i) ≡ k = omega arith in
-    rw q at (seek-over t at i (k - i) l (omega (arith, d .within)) (λ j a b. d .plain j a (omega arith)))
+    rw q at (seek-over t at i (k - i) l (omega (arith, d .within)) (λ j a b.
+    rw (drop-cons t j 0 (omega (arith, d .within)), ne-eqb (getD t j 0) 36 (d .plain j a (omega arith)))))
 
 pub seek-start : (t : List ℕ) (at : ℕ) → seek t at at ≡ close-from (drop at t) at true
 unfolding seek opens-at
 seek-start t at = rw (eq-eqb at at refl)
 
 -- ---- the end of a comment, or none
+kept-bad : (l : List Token) → all (λ y. bracketed (y .bytes)) (keep marked l) ≡ true
+unfolding keep all
+kept-bad [] = refl
+kept-bad (x ∷ l) =
+    split (bracketed (x .bytes))
+    (λ b. split (key 41 x) (λ k. rw (b, k) (kept-bad l)) (λ k. rw (b, k) (rw b (kept-bad l))))
+    (λ b. rw b (kept-bad l))
+
 pub comment-none : (t : List ℕ) (at : ℕ) → seek t at at ≡ none → Commented t at comment.Never
 unfolding tokens-from
 comment-none t at e =
     let h : Closes (toks (drop at t) at) (drop at t) at none = rw (sym (seek-start t at) ∙ e) at (closes (drop at t) at .0) in
     λ p. record {
-      pre = tokens-from t at;
-      split = sym (ap (λ l. tokens-from t at ++ l) (tokens-end t) ∙ append-nil (tokens-from t at));
-      shows = h p .0;
-      place = h p .1;
+      ms = keep marked (tokens-from t at);
+      passed = record {
+        pre = tokens-from t at;
+        split = sym (ap (λ l. tokens-from t at ++ l) (tokens-end t) ∙ append-nil (tokens-from t at));
+        shows = h p .0;
+        place = h p .1;
+      };
+      bad = kept-bad (tokens-from t at);
+      later = all-kept-from at (tokens-from t at) (tokens-after t at);
     }
 
-pub comment-some : (t : List ℕ) (at e : ℕ) → seek t at at ≡ some e → Commented t at (comment.Closed (record { at = e }))
+-- the place after all tokens is that after those behind its `$)`
+pub closes-last : (t : List ℕ) (at e p : ℕ) → seek t at at ≡ some e → after (tokens-from t at) (inside p) ≡ after (tokens-from t e) outside
 unfolding tokens-from
-comment-some t at e q =
+closes-last t at e p q =
     let h : Shut (toks (drop at t) at) (drop at t) at e = rw (sym (seek-start t at) ∙ q) at (closes (drop at t) at .0) in
     let f = h .from in
-    let g : at + (e - at) ≡ e = omega arith in (
-      λ p. record {
-        pre = h .pre;
-        split = h .split-at ∙ rw (drop-drop (e - at) at t, g);
-        shows = h .hides p;
-        place = h .leaves p;
-      },
-      omega arith,
-    )
+    let g : at + (e - at) ≡ e = omega arith in
+    let s : tokens-from t at ≡ h .pre ++ tokens-from t e = h .split-at ∙ rw (drop-drop (e - at) at t, g) in
+    ap (λ (l : List Token). after l (inside p)) s ∙ after-append (h .pre) (tokens-from t e) (inside p) ∙ rw (h .leaves p)
 
 -- ---- what the code looks at, by the offset
 module _ (t : List ℕ) (i : ℕ) where
@@ -259,18 +274,14 @@ plain-more t at i f n j a b =
     (λ e. let q : j ≡ i = eqb-true j i e in rw q n)
     (λ e. let q : j ≢ i = eqb-ne e in f j a (omega (arith, q)))
 
--- the loop: at the end of the text, at a `$)`, at another `$`
-module _ (t : List ℕ) (at : ℕ) {i k : ℕ} (l : at ≤ i) (s : seek t at i ≡ seek t at at) (d : Dollar t i k) where
-  to-dollar : seek t at k ≡ seek t at at
-  to-dollar = seek-dollar at l d ∙ s
-
-  pub loop-none : length t ≤ k → Commented t at comment.Never
-  loop-none h = comment-none t at (sym to-dollar ∙ seek-end t at k h)
+-- the loop over the `$`: at the end of the text, at a `$)`, at another `$`
+module _ (t : List ℕ) (at : ℕ) {i k : ℕ} (l : at ≤ i) (d : Dollar t i k) where
+  pub loop-none : length t ≤ k → seek t at i ≡ none
+  loop-none h = sym (seek-dollar at l d) ∙ seek-end t at k h
 
   module _ (h : k < length t) where
-    pub loop-some : and (opens-at t at k) (closes-first (drop k t)) ≡ true → Commented t at (comment.Closed (record { at = k + 2 }))
-    loop-some e =
-        comment-some t at (k + 2) (sym to-dollar ∙ seek-here t at k h e)
+    pub loop-some : and (opens-at t at k) (closes-first (drop k t)) ≡ true → seek t at i ≡ some (k + 2)
+    loop-some e = sym (seek-dollar at l d) ∙ seek-here t at k h e
 
-    pub loop-on : and (opens-at t at k) (closes-first (drop k t)) ≡ false → seek t at (k + 1) ≡ seek t at at
-    loop-on e = seek-step t at k (omega (arith, l, d .from)) h e ∙ to-dollar
+    pub loop-on : and (opens-at t at k) (closes-first (drop k t)) ≡ false → seek t at (k + 1) ≡ seek t at i
+    loop-on e = seek-step t at k (omega (arith, l, d .from)) h e ∙ seek-dollar at l d

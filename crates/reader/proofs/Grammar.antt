@@ -9,10 +9,10 @@ use native.Mathlib.Omega.{arith}
 use lib.ListN.{length, length-append}
 use Rattle.paper.specs.Base.{all}
 use Rattle.paper.specs.Tokens.{Token, tokens, key, math-token, label-token}
-use Rattle.paper.specs.Comments.{Place, outside, inside, after, visible}
+use Rattle.paper.specs.Comments.{Place, outside, after, visible}
 use Rattle.paper.specs.Statements.{Kind, Item, opens}
 use Rattle.paper.specs.Reader.{Mode, start, named, math, proof, Step, go, stop, plain-kind, label-kind, room, shut, begin, keyword, allow, with-items, many, refused, finish, ending, items}
-use Rattle.paper.specs.declared.Refusal.the-variants.{OpenComment, BadToken}
+use Rattle.paper.specs.declared.Refusal.the-variants.{BadToken}
 use Rattle.paper.proofs.Tests.{split, clash}
 use Rattle.paper.proofs.Comments.{after-append, visible-append}
 use Rattle.paper.proofs.Keys.{label-no-key}
@@ -20,12 +20,12 @@ use Rattle.token.specs.Words.{tokens-from, token-of}
 use Rattle.token.specs.declared.cursor.Span.{Span}
 use Rattle.token.specs.declared.cursor.Cursor.{Cursor}
 use Rattle.token.proofs.Words.{tokens-end}
-use Rattle.reader.specs.Passed.{Passed, Shows}
-use Rattle.reader.specs.Held.{Reached}
+use Rattle.reader.specs.Passed.{Passed, Shows, Reached}
 use Rattle.reader.proofs.Passes.{passed-none, passed-then, passed-few}
+use Rattle.reader.proofs.After.{earlier-token}
 
 -- ---- one stretch after the other
-many-stop : (l : List Token) (o : ℕ) → many l (stop o) ≡ stop o
+pub many-stop : (l : List Token) (o : ℕ) → many l (stop o) ≡ stop o
 unfolding many
 many-stop [] o = refl
 many-stop (x ∷ l) o = refl
@@ -103,22 +103,33 @@ module _ {t : List ℕ} {e c : ℕ} {z : Step} (r : Reached t e c z) (n : ℕ) w
         r .step,
       )
 
-pub refuse-token : {t : List ℕ} {e c o : ℕ} → Reached t e c (stop o) → (n : ℕ) → items (tokens t) n ≡ refused (BadToken o)
-refuse-token {t} {e} {c} {o} r n = whole r n ∙ rw (many-stop (visible (tokens-from t e) outside) o)
+pub refuse-token : {t : List ℕ} {e c o : ℕ} → Reached t e c (stop o) → o < e → (n : ℕ) → items (tokens t) n ≡ refused (BadToken o)
+refuse-token {t} {e} {c} {o} r l n =
+    whole r n ∙ rw (many-stop (visible (tokens-from t e) outside) o) (ap refused (earlier-token t o e l))
 
--- to the end, where nothing more is seen
-to-end : {t : List ℕ} {e c : ℕ} {z : Step} {q : Place} → Reached t e c z → Passed t e (length t) outside [] q → (n : ℕ) → items (tokens t) n ≡ ending z q n
-unfolding many
-to-end {t} {e} {c} {z} {q} r p n =
-    let s : tokens-from t e ≡ p .pre = p .split ∙ rw (tokens-end t, append-nil) in
-    whole r n ∙ rw (s, p .shows, p .place)
+-- further on, inside a comment or not
+pub whole-on : {t : List ℕ} {i e c : ℕ} {z : Step} {q : Place} {ms : List Token} → Reached t i c z → Passed t i e outside ms q
+    → (n : ℕ) → items (tokens t) n ≡ ending (many (visible (tokens-from t e) q) (many ms z)) (after (tokens-from t e) q) n
+whole-on {t} {i} {e} {c} {z} {q} {ms} r p n =
+    whole r n
+    ∙ rw (
+      p .split,
+      visible-append (p .pre) (tokens-from t e) outside,
+      after-append (p .pre) (tokens-from t e) outside,
+      p .place,
+      p .shows,
+      many-append ms (visible (tokens-from t e) q) z,
+    )
 
-pub refuse-open : {t : List ℕ} {e c d o : ℕ} {m : Mode} {i : List Item} → Reached t e c (go m d i) → Passed t e (length t) outside [] (inside o)
-    → (n : ℕ) → items (tokens t) n ≡ refused (OpenComment o)
-refuse-open r p n = to-end r p n
+-- to the end
+pub to-end : {t : List ℕ} {e c : ℕ} {z : Step} {q : Place} {ms : List Token} → Reached t e c z → Passed t e (length t) outside ms q
+    → (n : ℕ) → items (tokens t) n ≡ ending (many ms z) q n
+unfolding many visible after
+to-end {t} r p n = whole-on r p n ∙ rw (tokens-end t)
 
 pub reach-end : {t : List ℕ} {e c d : ℕ} {m : Mode} {i : List Item} → Reached t e c (go m d i) → Passed t e (length t) outside [] outside
     → (n : ℕ) → items (tokens t) n ≡ finish m d i n
+unfolding many
 reach-end r p n = to-end r p n
 
 -- ---- single tokens between statements

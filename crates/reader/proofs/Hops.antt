@@ -16,12 +16,11 @@ use Rattle.paper.specs.Comments.{outside, after, visible}
 use Rattle.paper.proofs.Tests.{split, clash, eqb-ne}
 use Rattle.paper.proofs.Keys.{math-no-key}
 use Rattle.token.specs.Class.{class}
-use Rattle.token.specs.Words.{tokens-from}
 use Rattle.token.proofs.Classes.{class-white, class-math}
-use Rattle.token.proofs.Words.{gap-step, tokens-skip}
 use Rattle.token.proofs.Parts.{part-tokens}
-use Rattle.reader.specs.Hops.{plain, Plain, Begins, Hopped}
-use Rattle.reader.proofs.Passes.{passed-none}
+use Rattle.reader.specs.Hops.{plain, Plain, Hopped}
+use Rattle.reader.specs.Dollar.{Begins}
+use Rattle.reader.proofs.Passes.{tokens-white, passed-none}
 
 -- what the code's comparisons say of a byte b of class c
 pub odd-class : (b : ℕ) (c : ℕ) → c ≡ class b → (c ≡ 1 → ⊥) → c < 3 → plain b ≡ false
@@ -91,14 +90,6 @@ visible-math (x ∷ l) e =
     (λ m. absurd (clash (sym (rw m at e))))
 
 -- ---- by the offset
--- white space before s
-tokens-white : (t : List ℕ) (s : ℕ) → 0 < s → s ≤ length t → white (getD t (s - 1) 0) ≡ true → tokens-from t (s - 1) ≡ tokens-from t s
-tokens-white t s l h e =
-    let q : (s - 1) + 1 ≡ s = omega arith in
-    tokens-skip t (s - 1)
-    ∙ ap (tokens-from t) (sym (rw q at (gap-step t (s - 1) (omega arith) e)))
-    ∙ sym (tokens-skip t s)
-
 hopped-none : (t : List ℕ) (i : ℕ) → Hopped t i i
 unfolding all
 hopped-none t i = record { ps = []; passed = passed-none t i outside; maths = refl }

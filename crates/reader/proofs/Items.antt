@@ -11,10 +11,11 @@ use lib.ListN.{length, take, drop, set, length-drop}
 use lib.Seq.{length-take-le}
 use borrow.Author.Tests.{le-leb, lt-leb}
 use Rattle.paper.specs.Tokens.{Token, tokens, key, label-token}
-use Rattle.paper.specs.Comments.{outside, inside}
+use Rattle.paper.specs.Comments.{outside}
 use Rattle.paper.specs.Statements.{Kind, $c, $v, $d, $f, $e, $a, $p, labelled, opens, closes}
 use Rattle.paper.specs.Reader.{start, named, math, Step, go, stop, plain-kind, label-kind, shut, begin, keyword, refused, items}
-use Rattle.paper.specs.declared.Refusal.the-variants.{OpenComment, BadToken, OpenText}
+use Rattle.paper.specs.declared.Refusal.{Refusal}
+use Rattle.paper.specs.declared.Refusal.the-variants.{BadToken, OpenText}
 use Rattle.paper.proofs.Tests.{split, by-option, clash}
 use Rattle.area.specs.Cells.{bucket-cell}
 use Rattle.token.specs.Words.{tokens-from, token-of}
@@ -22,16 +23,16 @@ use Rattle.token.specs.declared.cursor.Span.{Span}
 use Rattle.token.specs.declared.cursor.Cursor.{Cursor}
 use Rattle.token.proofs.Counts.{few-tokens}
 use Rattle.reader.specs.Rows.{kind-number}
-use Rattle.reader.specs.Passed.{Passed, Shows}
+use Rattle.reader.specs.Passed.{Passed, Reached, Shows, Refuses}
 use Rattle.reader.specs.Kinds.{code}
 use Rattle.reader.specs.Kept.{EventRoom, opened, shut-one}
-use Rattle.reader.specs.Held.{Reached, Held, Begun, Turned, Taken}
+use Rattle.reader.specs.Held.{Held, Begun, Turned, Taken}
 use Rattle.reader.specs.declared.state.State.{State}
 use Rattle.reader.specs.declared.state.Turn.{Turn}
 use Rattle.reader.specs.declared.state.Turn.the-variants as turn
 use Rattle.reader.proofs.Passes.{passed-few, shows-gap, shows-within}
 use Rattle.reader.proofs.Runs.{stands-span}
-use Rattle.reader.proofs.Grammar.{reached-token, reached-few, refuse-token, refuse-open, reach-end, allow-label, allow-open, allow-close, allow-begin, allow-named}
+use Rattle.reader.proofs.Grammar.{reached-token, reached-few, refuse-token, reach-end, allow-label, allow-open, allow-close, allow-begin, allow-named}
 use Rattle.reader.proofs.Keeping.{words-bracket}
 
 -- ---- keywords by their numbers
@@ -74,6 +75,9 @@ module _ {t w : List ℕ} {n : ℕ} {s : State} (h : Held t w n s) where
 
   -- ---- a token x
   module _ {x : Span} {a : Cursor} (p : Shows t (s .cursor .at) x a) where
+    here-before : x .start < a .at
+    here-before = omega (arith, p .whole .some, p .stands)
+
     less-one : length (tokens-from t (a .at)) < length (tokens-from t (s .cursor .at))
     less-one = omega (arith, passed-few (p .passed))
 
@@ -89,14 +93,14 @@ module _ {t w : List ℕ} {n : ℕ} {s : State} (h : Held t w n s) where
     module _ (f₁ : key 123 (token-of t x) ≡ false) where
       pub close-none : key 125 (token-of t x) ≡ true → s .depth ≡ 0 → items (tokens t) (length t) ≡ refused (BadToken (x .start))
       close-none f₂ z =
-          refuse-token (reached-token {z = stop (x .start)} (h .reached) p (allow-close (s .depth) (token-of t x) f₁ f₂ ∙ rw z)) (length t)
+          refuse-token (reached-token {z = stop (x .start)} (h .reached) p (allow-close (s .depth) (token-of t x) f₁ f₂ ∙ rw z)) here-before (length t)
 
       module _ (f₂ : key 125 (token-of t x) ≡ false) {c : ℕ} (q : c ≡ code (plain-kind (token-of t x))) where
         pub plain-bad : x .least < 4 → c ≡ 0 → items (tokens t) (length t) ≡ refused (BadToken (x .start))
         plain-bad l z =
             let a : label-token (token-of t x) ≡ false = sym (p .whole .label) ∙ lt-leb 4 (x .least) l in
             let b : begin (plain-kind (token-of t x)) (s .depth) (token-of t x) ≡ stop (x .start) = rw (code-none (plain-kind (token-of t x)) (sym q ∙ z), a) in
-            refuse-token (reached-token {z = stop (x .start)} (h .reached) p (allow-begin (s .depth) (token-of t x) f₁ f₂ ∙ b)) (length t)
+            refuse-token (reached-token {z = stop (x .start)} (h .reached) p (allow-begin (s .depth) (token-of t x) f₁ f₂ ∙ b)) here-before (length t)
 
         pub plain-begun : (c ≡ 0 → ⊥) → Begun t w n s (record { kind = c; at = x .start; label = 0; from = a })
         plain-begun nz =
@@ -165,14 +169,14 @@ module _ {t w : List ℕ} {n : ℕ} {s : State} (h : Held t w n s) where
       pub label-end : Passed t (a .at) (length t) outside [] outside → items (tokens t) (length t) ≡ refused (OpenText (length t))
       label-end q = reach-end labelled-at q (length t)
 
-      pub label-open : {o : ℕ} → Passed t (a .at) (length t) outside [] (inside o) → items (tokens t) (length t) ≡ refused (OpenComment o)
-      label-open q = refuse-open labelled-at q (length t)
+      pub label-refused : {y : Refusal} → Refuses t (a .at) y → items (tokens t) (length t) ≡ refused y
+      label-refused q = q .items-are labelled-at
 
       module _ {y : Span} {b : Cursor} (g : Shows t (a .at) y b) {c : ℕ} (q : c ≡ code (label-kind (token-of t y))) where
         pub label-bad : c ≡ 0 → items (tokens t) (length t) ≡ refused (BadToken (y .start))
         label-bad z =
             let b : keyword (label-kind (token-of t y)) (s .depth) (token-of t x) (token-of t y) ≡ stop (y .start) = rw (code-none (label-kind (token-of t y)) (sym q ∙ z)) in
-            refuse-token (reached-token {z = stop (y .start)} labelled-at g (allow-named (s .depth) (token-of t x) (token-of t y) ∙ b)) (length t)
+            refuse-token (reached-token {z = stop (y .start)} labelled-at g (allow-named (s .depth) (token-of t x) (token-of t y) ∙ b)) (omega (arith, g .whole .some, g .stands)) (length t)
 
         pub label-begun : (c ≡ 0 → ⊥) → Begun t w n s (record { kind = c; at = x .start; label = x .stop - x .start; from = b })
         label-begun nz =

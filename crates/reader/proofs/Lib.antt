@@ -1,10 +1,13 @@
 pub mod Passes
+pub mod After
 pub mod Dollars
+pub mod Marks
 pub mod Hops
 pub mod Runs
 pub mod Stores
 pub mod Keeping
 pub mod Grammar
+pub mod Looks
 pub mod Bodies
 pub mod Items
 pub mod Backs

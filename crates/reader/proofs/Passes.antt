@@ -3,21 +3,26 @@
 use mathlib.Core.Path.{_≡_, refl, sym, ap, _∙_}
 use mathlib.Core.Bool.{true, false}
 use mathlib.Core.List.{List, [], _∷_, _++_, append-assoc}
-use Prim.Native.Nat.{ℕ, _+_, _<_, _≤_}
+use Prim.Native.Nat.{ℕ, _+_, _-_, _<_, _≤_}
 use native.Mathlib.Omega.{arith}
-use lib.ListN.{length, length-append}
+use lib.ListN.{length, getD, length-append}
+use Rattle.paper.specs.Bytes.{white}
 use Rattle.paper.specs.Tokens.{Token, key}
 use Rattle.paper.specs.Comments.{Place, outside, inside, next, after, shown, visible}
 use Rattle.paper.proofs.Comments.{after-append, visible-append, visible-few}
-use Rattle.paper.proofs.Keys.{math-no-key}
-use Rattle.token.specs.Words.{tokens-from, token-of, Spans, Read}
-use Rattle.token.proofs.Words.{tokens-end}
+use Rattle.token.specs.Words.{tokens-from, token-of, Spans}
+use Rattle.token.proofs.Words.{gap-step, tokens-skip, tokens-end}
 use Rattle.token.specs.declared.cursor.Span.{Span}
 use Rattle.token.specs.declared.cursor.Cursor.{Cursor}
-use Rattle.reader.specs.declared.comment.Comment.the-variants as comment
-use Rattle.reader.specs.declared.comment.Look.the-variants as look
-use Rattle.reader.specs.Passed.{Passed, Gap, Shows, Commented, Looked}
-use borrow.Author.Tests.{le-leb}
+use Rattle.reader.specs.Passed.{Passed, Gap, Shows}
+
+-- white space before s
+pub tokens-white : (t : List ℕ) (s : ℕ) → 0 < s → s ≤ length t → white (getD t (s - 1) 0) ≡ true → tokens-from t (s - 1) ≡ tokens-from t s
+tokens-white t s l h e =
+    let q : (s - 1) + 1 ≡ s = omega arith in
+    tokens-skip t (s - 1)
+    ∙ ap (tokens-from t) (sym (rw q at (gap-step t (s - 1) (omega arith) e)))
+    ∙ sym (tokens-skip t s)
 
 pub passed-none : (t : List ℕ) (i : ℕ) (p : Place) → Passed t i i p [] p
 unfolding after visible
@@ -73,30 +78,3 @@ shows-within h = rw (h .stands) (h .whole .within)
 pub shows-after : {t : List ℕ} {i e : ℕ} {x : Span} {c : Cursor} → Passed t i e outside [] outside → i ≤ e → Shows t e x c → Shows t i x c
 shows-after p l h =
     record { passed = passed-then p (h .passed); onward = omega (arith, l, h .onward); whole = h .whole; stands = h .stands }
-
--- ---- the first token from i on, by whether it begins a comment
-module _ {t : List ℕ} {i : ℕ} {x : Span} {c : Cursor} (r : Read t i x c) where
-  pub look-plain : key 40 (token-of t x) ≡ false → Shows t i x c
-  look-plain e = record { passed = rw (r .stands) (pass-shown i (r .skip) (r .whole) e); onward = r .from; whole = r .whole; stands = r .stands }
-
-  pub look-math : 3 ≤ x .least → Shows t i x c
-  look-math h = look-plain (math-no-key 40 (token-of t x) (sym (r .whole .math) ∙ le-leb 3 (x .least) h))
-
-  opened : key 40 (token-of t x) ≡ true → Passed t i (c .at) outside [] (inside (x .start))
-  opened e = rw (r .stands) (pass-open i (r .skip) (r .whole) e)
-
-  less : length (tokens-from t (c .at)) < length (tokens-from t i)
-  less = rw (r .stands) (token-less i (r .skip) (r .whole))
-
-  pub look-open : key 40 (token-of t x) ≡ true → Commented t (c .at) comment.Never → Looked t i (look.Open (x .start))
-  look-open e h = passed-then (opened e) (h (x .start))
-
-  pub look-past : key 40 (token-of t x) ≡ true → (a : Cursor) → Commented t (c .at) (comment.Closed a) → Looked t i (look.Past a)
-  look-past e a h = (
-    passed-then (opened e) (h .0 (x .start)),
-    omega (arith, passed-few (h .0 (x .start)), less),
-    omega (arith, h .1, r .from, r .whole .some, r .stands),
-  )
-
-pub look-done : {t : List ℕ} {i : ℕ} → tokens-from t i ≡ [] → Looked t i look.End
-look-done {t} {i} z = passed-end (passed-none t i outside) z

@@ -1,5 +1,5 @@
--- The end of a comment by its bytes: `$)` after white space and before white space or the end of the text.
--- From `$` to `$`, no other byte of a comment matters.
+-- A comment by its bytes: the first `$(` or `$)`, the token in which it stands, and the first `$)` after white space and before
+-- white space or the end of the text. From `$` to `$`, no other byte of a comment matters.
 use mathlib.Core.Path.{_≡_}
 use mathlib.Core.Logic.{_≢_}
 use mathlib.Core.Bool.{Bool, true, false}
@@ -10,6 +10,7 @@ use lib.Dec.{eqb}
 use lib.ListN.{length, getD, drop}
 use Rattle.paper.specs.Base.{choose, and}
 use Rattle.paper.specs.Bytes.{white}
+use Rattle.paper.specs.Comments.{bracket-first}
 
 -- white space, or the end
 abbrev pub gap-first : List ℕ → Bool
@@ -26,6 +27,11 @@ abbrev pub closes-first : List ℕ → Bool
 closes-first [] = false
 closes-first (b ∷ l) = and (eqb b 36) (shuts l)
 
+-- `$` and then `(` or `)`
+abbrev pub mark-first : List ℕ → Bool
+mark-first [] = false
+mark-first (b ∷ l) = and (eqb b 36) (bracket-first l)
+
 -- the offset after the first `$)`, where the bytes start at offset o, and w says whether white space stands before them
 unfoldable pub close-from : List ℕ → ℕ → Bool → Option ℕ
 close-from [] o w = none
@@ -39,9 +45,27 @@ opens-at t at i = choose (eqb i at) true (white (getD t (i - 1) 0))
 unfoldable pub seek : List ℕ → ℕ → ℕ → Option ℕ
 seek t at i = close-from (drop i t) i (opens-at t at i)
 
+abbrev pub found : Option ℕ → Bool
+found none = false
+found (some e) = true
+
 -- the first `$` from i on, or the end
 pub record Dollar (t : List ℕ) (i k : ℕ) : Type 0 where
   pub from : i ≤ k
   pub within : k ≤ length t
   pub plain : (j : ℕ) → i ≤ j → j < k → getD t j 0 ≢ 36
   pub here : k < length t → getD t k 0 ≡ 36
+
+-- the first `$(` or `$)` from i on, or the end
+pub record Mark (t : List ℕ) (i k : ℕ) : Type 0 where
+  pub from : i ≤ k
+  pub within : k ≤ length t
+  pub plain : (j : ℕ) → i ≤ j → j < k → mark-first (drop j t) ≡ false
+  pub here : k < length t → mark-first (drop k t) ≡ true
+
+-- the place after the last white space from i up to k, or i
+pub record Begins (t : List ℕ) (i k s : ℕ) : Type 0 where
+  pub from : i ≤ s
+  pub upto : s ≤ k
+  pub opens : i < s → white (getD t (s - 1) 0) ≡ true
+  pub inside : (j : ℕ) → s ≤ j → j < k → white (getD t j 0) ≡ false

@@ -5,26 +5,19 @@ use mathlib.Core.Bool.{true}
 use mathlib.Core.List.{List, []}
 use Prim.Native.Nat.{ℕ, _+_, _<_, _≤_}
 use lib.ListN.{length}
-use Rattle.paper.specs.Tokens.{Token, tokens}
+use Rattle.paper.specs.Tokens.{tokens}
 use Rattle.paper.specs.Comments.{outside}
 use Rattle.paper.specs.Statements.{Kind, $p, labelled, Item}
-use Rattle.paper.specs.Reader.{start, math, proof, Step, go, many, refused, items}
+use Rattle.paper.specs.Reader.{start, math, proof, go, refused, items}
 use Rattle.token.specs.Words.{tokens-from}
 use Rattle.reader.specs.Rows.{kind-number, Stands}
-use Rattle.reader.specs.Passed.{Passed, Gap}
+use Rattle.reader.specs.Passed.{Passed, Gap, Reached}
 use Rattle.reader.specs.Runs.{Running}
 use Rattle.reader.specs.Kept.{Words}
 use Rattle.reader.specs.declared.state.State.{State}
 use Rattle.reader.specs.declared.state.Head.{Head}
 use Rattle.reader.specs.declared.state.Turn.{Turn}
 use Rattle.reader.specs.declared.state.Turn.the-variants as turn
-
--- up to e the grammar reads z, from c visible tokens or more
-pub record Reached (t : List ℕ) (e c : ℕ) (z : Step) : Type 0 where
-  pub seen : List Token
-  pub passed : Passed t 0 e outside seen outside
-  pub step : many seen (go start 0 []) ≡ z
-  pub size : c ≤ length seen
 
 -- between two items
 pub record Held (t w : List ℕ) (n : ℕ) (s : State) : Type 0 where

@@ -26,13 +26,6 @@ pub record Odd (t : List ℕ) (i k : ℕ) : Type 0 where
   pub upto : Plain t i k
   pub here : k < length t → plain (getD t k 0) ≡ false
 
--- the place after the last white space from i up to k, or i
-pub record Begins (t : List ℕ) (i k s : ℕ) : Type 0 where
-  pub from : i ≤ s
-  pub upto : s ≤ k
-  pub opens : i < s → white (getD t (s - 1) 0) ≡ true
-  pub inside : (j : ℕ) → s ≤ j → j < k → white (getD t j 0) ≡ false
-
 -- from i to s stand math tokens, and no others
 pub record Hopped (t : List ℕ) (i s : ℕ) : Type 0 where
   pub ps : List Token

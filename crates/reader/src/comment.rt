@@ -1,5 +1,6 @@
 // Tokens outside comments, one after the other.
-// A comment runs from the token `$(` to the next token that is exactly `$)`.
+// A comment runs from the token `$(` to the next token that is exactly `$)`; `$(` and `$)` may not occur in it otherwise.
+use paper::Refusal;
 use token::class::class_of;
 use token::cursor::Cursor;
 use token::cursor::DOLLAR;
@@ -13,28 +14,30 @@ ghost use Rattle.token.specs.Class.{classes};
 ghost use Prim.Native.Nat.{_<_, _≤_};
 ghost use lib.ListN.{length, drop};
 ghost use Rattle.paper.specs.Base.{and};
-ghost use Rattle.reader.specs.Dollar.{Dollar, gap-first, closes-first, opens-at};
+ghost use Rattle.reader.specs.Dollar.{Dollar, Mark, Begins, gap-first, mark-first, closes-first, opens-at, seek, found};
 ghost use Rattle.reader.specs.Passed.{Commented, Looked, Seen};
 
-/// Where a comment closes: the cursor after its `$)`, or nowhere.
+/// What a comment is: closed, with the cursor after its `$)`; closed, with the place of the first token that may not stand in it;
+/// or never closed.
 pub enum Comment {
     Closed(Cursor),
+    Bad(usize),
     Never,
 }
 
-/// What a token is outside comments: shown, with the cursor after it, the start of a comment that is never closed, or of one
-/// with the cursor after it; or no more.
+/// What a token is outside comments: shown, with the cursor after it, or the start of a comment, with the cursor after it or
+/// what it is refused with; or no more.
 pub enum Look {
     Token(Span, Cursor),
     Past(Cursor),
-    Open(usize),
+    Refused(Refusal),
     End,
 }
 
-/// What stands next outside comments: a token, with the cursor after it, a comment never closed, or no more.
+/// What stands next outside comments: a token, with the cursor after it, a comment that is refused, or no more.
 pub enum Visible {
     Token(Span, Cursor),
-    Open(usize),
+    Refused(Refusal),
     End,
 }
 
@@ -93,23 +96,89 @@ pub fn closes_at(table: &[u8; 256], text: &[u8], at: usize, i: usize) -> bool
     gap_at(table, text, stop)
 }
 
-/// The end of the comment that goes on from `c`, the cursor after its `$(`.
+/// The place after the last white space from `at` up to `k`, or `at`.
+pub fn start_of(table: &[u8; 256], text: &[u8], at: usize, k: usize) -> usize
+    requires { ⌜ (now table ≡ classes) × (at ≤ k) × (k ≤ length (now text)) ⌝ }
+    ensures { λ r. ⌜ Begins (now (text .entry)) at k r ⌝ }
+{
+    let mut i = k;
+    while at < i {
+        if class_of(table, text[i - 1]) == 1 {
+            return i;
+        }
+        i -= 1;
+    }
+    i
+}
+
+/// Whether `$(` or `$)` stands at `i`.
+pub fn mark_at(text: &[u8], i: usize) -> bool
+    requires { ⌜ i < length (now text) ⌝ }
+    ensures { λ r. ⌜ r ≡ mark-first (drop i (now (text .entry))) ⌝ }
+{
+    let stop = i + 2;
+    if text.len() < stop {
+        return false;
+    }
+    if is_key(&text[i..stop], KEY_COMMENT) {
+        return true;
+    }
+    is_key(&text[i..stop], KEY_COMMENT_END)
+}
+
+/// The first `$(` or `$)` from `at` on, or the length.
+pub fn next_mark(text: &[u8], at: usize) -> usize
+    requires { ⌜ at ≤ length (now text) ⌝ }
+    ensures { λ r. ⌜ Mark (now (text .entry)) at r ⌝ }
+{
+    let mut i = at;
+    loop {
+        let k = next_dollar(text, i);
+        if text.len() <= k {
+            return k;
+        }
+        if mark_at(text, k) {
+            return k;
+        }
+        i = k + 1;
+    }
+}
+
+/// Whether a token `$)` starts from `from` on, in a comment that goes on from `at`.
+pub fn closes_from(table: &[u8; 256], text: &[u8], at: usize, from: usize) -> bool
+    requires { ⌜ (now table ≡ classes) × (at ≤ from) × (from ≤ length (now text)) ⌝ }
+    ensures { λ r. ⌜ r ≡ found (seek (now (text .entry)) at from) ⌝ }
+{
+    let mut i = from;
+    loop {
+        let k = next_dollar(text, i);
+        if text.len() <= k {
+            return false;
+        }
+        if closes_at(table, text, at, k) {
+            return true;
+        }
+        i = k + 1;
+    }
+}
+
+/// The comment that goes on from `c`, the cursor after its `$(`.
 pub fn comment_end(table: &[u8; 256], text: &[u8], c: Cursor) -> Comment
     requires { ⌜ (now table ≡ classes) × (c .at ≤ length (now text)) ⌝ }
     ensures { λ r. ⌜ Commented (now (text .entry)) (c .at) r ⌝ }
 {
     let at = c.at;
-    let mut i = at;
-    loop {
-        let k = next_dollar(text, i);
-        if text.len() <= k {
-            return Comment::Never;
-        }
-        if closes_at(table, text, at, k) {
-            return Comment::Closed(Cursor { at: k + 2 });
-        }
-        i = k + 1;
+    let k = next_mark(text, at);
+    if text.len() <= k {
+        return Comment::Never;
     }
+    if closes_at(table, text, at, k) {
+        return Comment::Closed(Cursor { at: k + 2 });
+    }
+    if !closes_from(table, text, at, k + 1) {
+        return Comment::Never;
+    }
+    Comment::Bad(start_of(table, text, at, k))
 }
 
 /// The first token from `c` on, by whether it begins a comment.
@@ -128,10 +197,11 @@ pub fn look_at(table: &[u8; 256], text: &[u8], c: Cursor) -> Look
     if !is_key(&text[start..stop], KEY_COMMENT) {
         return Look::Token(x, d);
     }
-    let Comment::Closed(after) = comment_end(table, text, d) else {
-        return Look::Open(start);
-    };
-    Look::Past(after)
+    match comment_end(table, text, d) {
+        Comment::Closed(e) => Look::Past(e),
+        Comment::Bad(p) => Look::Refused(Refusal::BadToken(p as u64)),
+        Comment::Never => Look::Refused(Refusal::OpenComment(start as u64)),
+    }
 }
 
 /// The first token from `c` on that stands outside comments.
@@ -144,7 +214,7 @@ pub fn next_visible(table: &[u8; 256], text: &[u8], c: Cursor) -> Visible
         match look_at(table, text, i) {
             Look::Token(x, d) => return Visible::Token(x, d),
             Look::Past(d) => i = d,
-            Look::Open(p) => return Visible::Open(p),
+            Look::Refused(x) => return Visible::Refused(x),
             Look::End => return Visible::End,
         }
     }

@@ -97,7 +97,7 @@ pub fn read_labelled(
     let stop = x.stop;
     match next_visible(table, text, c) {
         Visible::End => Turn::Refused(Refusal::OpenText(text.len() as u64)),
-        Visible::Open(p) => Turn::Refused(Refusal::OpenComment(p as u64)),
+        Visible::Refused(x) => Turn::Refused(x),
         Visible::Token(y, d) => {
             let kind = label_code(text, y);
             if kind == 0 {
@@ -193,7 +193,7 @@ pub fn read_one(table: &[u8; 256], text: &[u8], work: &mut [u32], n: usize, s: S
 {
     match next_visible(table, text, s.cursor) {
         Visible::End => Turn::End,
-        Visible::Open(p) => Turn::Refused(Refusal::OpenComment(p as u64)),
+        Visible::Refused(x) => Turn::Refused(x),
         Visible::Token(x, c) => read_from(table, text, work, n, s, x, c),
     }
 }

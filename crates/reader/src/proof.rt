@@ -2,6 +2,7 @@
 // Its bytes are passed up to the next that is neither white space nor a math byte, not token by token.
 use crate::comment::Visible;
 use crate::comment::next_visible;
+use crate::comment::start_of;
 use crate::run::Run;
 use token::class::class_of;
 use token::cursor::Cursor;
@@ -9,7 +10,7 @@ ghost use mathlib.Core.Path.{_≡_};
 ghost use Prim.Native.Nat.{_≤_};
 ghost use lib.ListN.{length};
 ghost use Rattle.token.specs.Class.{classes};
-ghost use Rattle.reader.specs.Hops.{Odd, Begins, Hopped};
+ghost use Rattle.reader.specs.Hops.{Odd, Hopped};
 ghost use Rattle.reader.specs.Runs.{Proved};
 
 /// The first byte from `at` on that is neither white space nor a math byte, or the length.
@@ -27,21 +28,6 @@ pub fn next_odd(table: &[u8; 256], text: &[u8], at: usize) -> usize
             return i;
         }
         i += 1;
-    }
-    i
-}
-
-/// The place after the last white space from `at` up to `k`, or `at`.
-pub fn start_of(table: &[u8; 256], text: &[u8], at: usize, k: usize) -> usize
-    requires { ⌜ (now table ≡ classes) × (at ≤ k) × (k ≤ length (now text)) ⌝ }
-    ensures { λ r. ⌜ Begins (now (text .entry)) at k r ⌝ }
-{
-    let mut i = k;
-    while at < i {
-        if class_of(table, text[i - 1]) == 1 {
-            return i;
-        }
-        i -= 1;
     }
     i
 }

@@ -85,7 +85,7 @@ pub fn close_run(text: &[u8], run: Run, least: usize, key: [u8; 2]) -> Closing
     let after = run.after;
     match after {
         Visible::End => Closing::Refused(Refusal::OpenText(text.len() as u64)),
-        Visible::Open(p) => Closing::Refused(Refusal::OpenComment(p as u64)),
+        Visible::Refused(x) => Closing::Refused(x),
         Visible::Token(x, d) => {
             let start = x.start;
             let stop = x.stop;

@@ -31,7 +31,8 @@ use Rattle.scopeck.specs.declared.Scope.{Scope}
 use Rattle.scopeck.specs.declared.Row.{Row}
 use Rattle.scopeck.specs.declared.Owner.the-variants as own
 use Rattle.scopeck.specs.Scope.{row-of, Owns, moved, Ready, GivesPart}
-use Rattle.scopeck.proofs.Ready.{apart-of, kind-f, kind-of, row-room, here-of}
+use Rattle.scopeck.proofs.Numbers.{kind-f}
+use Rattle.scopeck.proofs.Ready.{apart-of, kind-of, row-room, here-of}
 use Rattle.scopeck.proofs.Gives.{given-by, accept-some, told-some, told-nothing, nested-next, hyps-next, atoms-fit, ess-still, dis-still, rejected}
 use Rattle.scopeck.proofs.Labelled.{owned}
 

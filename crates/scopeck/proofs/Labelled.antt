@@ -39,7 +39,8 @@ use Rattle.scopeck.specs.declared.Owner.{Owner}
 use Rattle.scopeck.specs.declared.Owner.the-variants as own
 use Rattle.scopeck.specs.Scope.{row-of, Borne, own-by, Owns, moved, with-essential, Ready, GivesPart}
 use Rattle.scopeck.proofs.Owners.{Bearer, bearer-of, owns-none, owns-some}
-use Rattle.scopeck.proofs.Ready.{kind-e, kind-large, kind-of, row-room, here-of, walk-of, label-atomic}
+use Rattle.scopeck.proofs.Numbers.{kind-e, kind-large}
+use Rattle.scopeck.proofs.Ready.{kind-of, row-room, here-of, walk-of, label-atomic}
 use Rattle.scopeck.proofs.Gives.{given-by, unless-some, accept-some, accept-diags, accept-nothing, told-some, told-nothing, nested-next, hyps-next, atoms-fit, entry-room, dis-still, quiet, rejected}
 
 -- ---- labels

@@ -1,3 +1,4 @@
+pub mod Numbers
 pub mod Ready
 pub mod Owners
 pub mod Gives

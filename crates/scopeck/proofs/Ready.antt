@@ -5,9 +5,15 @@ use mathlib.Core.Bool.{true}
 use mathlib.Core.List.{List, map}
 use Prim.Native.Nat.{ℕ, _+_, _-_, _*_, _<_, _≤_, _^_}
 use native.Mathlib.Omega.{arith}
-use lib.ListN.{length, length-map, length-take, length-drop}
-use Rattle.paper.specs.Statements.{Kind, $c, $v, $d, $f, $e, $a, $p, labelled, Statement}
-use Rattle.paper.specs.Checks.{token}
+use lib.ListN.{length, getD, length-map, length-take, length-drop}
+use Rattle.paper.specs.Statements.{labelled, Statement}
+use Rattle.paper.specs.Base.{all}
+use Rattle.paper.specs.Bytes.{math-byte}
+use Rattle.paper.specs.Tokens.{Token, math-token}
+use Rattle.paper.specs.Comments.{bracketed}
+use Rattle.paper.specs.Checks.{no-token, token}
+use Rattle.paper.proofs.Tests.{split, clash}
+use Rattle.paper.proofs.Allowed.{bracket-math}
 use Rattle.area.specs.Cells.{statement-cell, math-cell, word}
 use Rattle.reader.specs.Rows.{kind-number, stmt}
 use Rattle.nameck.specs.Atoms.{atoms, atom-of}
@@ -16,71 +22,18 @@ use Rattle.nameck.proofs.Kept.{math-row}
 use Rattle.token.specs.Words.{move}
 use Rattle.slots.specs.Slots.{Atomic, Apart}
 use Rattle.checks.specs.Tokens.{Can, HasFloat}
-use Rattle.checks.specs.Visible.{visible-from}
+use Rattle.checks.specs.Visible.{visible-from, clean, Calm}
 use Rattle.checks.specs.Walks.{Walk, HasFloats, LastTwo, Here, WalkPart, HerePart}
-use Rattle.checks.proofs.Comments.{math-part}
+use Rattle.checks.proofs.Comments.{math-part, all-each}
+use Rattle.checks.proofs.OverPart.{map-at}
 use Rattle.scopeck.specs.declared.Scope.{Scope}
 use Rattle.scopeck.specs.declared.Row.{Row}
 use Rattle.scopeck.specs.Scope.{row-of, part-of, Ready}
+use Rattle.scopeck.proofs.Numbers.{kind-f, kind-large}
 
 pub apart-of : (l : List Statement) → Apart l
 apart-of l =
     record { apart = λ a b h k e. sym (atom-of-name l a h) ∙ ap (atom-of l) e ∙ atom-of-name l b k }
-
--- ---- kinds by their numbers
-pub kind-c : (k : Kind) → kind-number k ≡ 1 → k ≡ $c
-kind-c $c e = refl
-kind-c $v e = absurd (omega arith)
-kind-c $d e = absurd (omega arith)
-kind-c $f e = absurd (omega arith)
-kind-c $e e = absurd (omega arith)
-kind-c $a e = absurd (omega arith)
-kind-c $p e = absurd (omega arith)
-
-pub kind-v : (k : Kind) → kind-number k ≡ 2 → k ≡ $v
-kind-v $c e = absurd (omega arith)
-kind-v $v e = refl
-kind-v $d e = absurd (omega arith)
-kind-v $f e = absurd (omega arith)
-kind-v $e e = absurd (omega arith)
-kind-v $a e = absurd (omega arith)
-kind-v $p e = absurd (omega arith)
-
-pub kind-d : (k : Kind) → kind-number k ≡ 3 → k ≡ $d
-kind-d $c e = absurd (omega arith)
-kind-d $v e = absurd (omega arith)
-kind-d $d e = refl
-kind-d $f e = absurd (omega arith)
-kind-d $e e = absurd (omega arith)
-kind-d $a e = absurd (omega arith)
-kind-d $p e = absurd (omega arith)
-
-pub kind-f : (k : Kind) → kind-number k ≡ 4 → k ≡ $f
-kind-f $c e = absurd (omega arith)
-kind-f $v e = absurd (omega arith)
-kind-f $d e = absurd (omega arith)
-kind-f $f e = refl
-kind-f $e e = absurd (omega arith)
-kind-f $a e = absurd (omega arith)
-kind-f $p e = absurd (omega arith)
-
-pub kind-e : (k : Kind) → kind-number k ≡ 5 → k ≡ $e
-kind-e $c e = absurd (omega arith)
-kind-e $v e = absurd (omega arith)
-kind-e $d e = absurd (omega arith)
-kind-e $f e = absurd (omega arith)
-kind-e $e e = refl
-kind-e $a e = absurd (omega arith)
-kind-e $p e = absurd (omega arith)
-
-pub kind-large : (k : Kind) → 4 ≤ kind-number k → labelled k ≡ true
-kind-large $c h = absurd (omega arith)
-kind-large $v h = absurd (omega arith)
-kind-large $d h = absurd (omega arith)
-kind-large $f h = refl
-kind-large $e h = refl
-kind-large $a h = refl
-kind-large $p h = refl
 
 -- ---- the statement in hand
 module _ {t w : List ℕ} {n : ℕ} {l : List Statement} {st : Scope} {k : ℕ} (b : Ready t w n l st k) where
@@ -168,12 +121,24 @@ module _ {t w : List ℕ} {n : ℕ} {l : List Statement} {st : Scope} {k : ℕ} 
       part-count : length (visible-from q 0) ≡ length (stmt l k .math)
       part-count = sym (ap length part-math ∙ length-map (visible-from q 0) (move f))
 
+      -- math tokens have no `$`
+      part-plain : (i : ℕ) → i < length (visible-from q 0) → clean (getD (visible-from q 0) i no-token) ≡ true
+      unfolding math-token
+      part-plain i h =
+          let x = getD (visible-from q 0) i no-token in
+          let e : token (stmt l k) i ≡ move f x = ap (λ (m : List Token). getD m i no-token) part-math ∙ map-at f (visible-from q 0) i h in
+          let m : all math-byte (x .bytes) ≡ true = rw e at (b .facts .shaped k (b .inside) .bytes i (omega (arith, part-count))) in
+          split (bracketed (x .bytes)) (λ z. absurd (clash (sym m ∙ bracket-math x z))) (λ z. rw z)
+
+      pub part-calm : Calm q
+      part-calm = all-each clean (visible-from q 0) part-plain
+
       -- as many as the row says
       pub part-counted : length (visible-from q 0) ≡ r .count
       part-counted = part-count ∙ sym (here-of .count)
 
-      pub walk-eap : Walk w n (st .diags) (r .first) (length (visible-from q 0)) × HasFloats w n (r .first) (length (visible-from q 0))
-      walk-eap = rw part-counted (walk-of, floats-of)
+      pub walk-eap : Walk w n (st .diags) (r .first) (length (visible-from q 0)) × HasFloats w n (r .first) (length (visible-from q 0)) × Calm q
+      walk-eap = (rw part-counted walk-of, rw part-counted floats-of, part-calm)
 
       pub here-part : HerePart t w q n l k (r .first) f (r .at .0)
       here-part =
@@ -212,6 +177,7 @@ module _ {t w : List ℕ} {n : ℕ} {l : List Statement} {st : Scope} {k : ℕ} 
               place = h .place;
             };
             short = part-short;
+            calm = part-calm;
           }
 
     -- ---- a statement that bears a label

@@ -33,7 +33,8 @@ use Rattle.checks.proofs.Ones.{same-told}
 use Rattle.scopeck.specs.declared.Scope.{Scope}
 use Rattle.scopeck.specs.declared.Row.{Row}
 use Rattle.scopeck.specs.Scope.{row-of, part-of, moved, with-disjoint, Ready, Given, GivesPart}
-use Rattle.scopeck.proofs.Ready.{apart-of, kind-c, kind-v, kind-d, kind-of, row-room, here-of, walk-of, here-part, walk-part}
+use Rattle.scopeck.proofs.Numbers.{kind-c, kind-v, kind-d}
+use Rattle.scopeck.proofs.Ready.{apart-of, kind-of, row-room, here-of, walk-of, here-part, walk-part}
 use Rattle.scopeck.proofs.Gives.{given-by, accept-some, told-some, told-nothing, nested-next, hyps-next, atoms-fit, entry-room, ess-still, dis-still, quiet, rejected}
 
 -- ---- an outermost `$c` or `$v`

@@ -1,11 +1,12 @@
 -- Comments: the visible tokens of one part after another, and the place at a token that is visible.
 -- The lemmas V1 and V2 of the proof on paper; V3 is both of them twice.
 use mathlib.Core.Path.{_≡_, refl, sym, ap, _∙_}
-use mathlib.Core.Bool.{false}
+use mathlib.Core.Bool.{true, false}
 use mathlib.Core.List.{List, [], _∷_, _++_, append-assoc}
+use Prim.Native.Nat.{ℕ}
 use Rattle.paper.specs.Tokens.{Token, key}
-use Rattle.paper.specs.Comments.{Place, outside, inside, next, after, shown, visible}
-use Rattle.paper.proofs.Tests.{split}
+use Rattle.paper.specs.Comments.{Place, outside, inside, next, after, bracketed, marked, shown, visible}
+use Rattle.paper.proofs.Tests.{split, clash, same-eq}
 use Rattle.paper.proofs.Alls.{All, all-none, all-more}
 use Rattle.paper.proofs.Searches.{not-nil}
 
@@ -28,9 +29,10 @@ unfolding visible
 visible-all m all-none = all-none
 visible-all outside (all-more {x = x} h a) =
     split (key 40 x) (λ k. rw k (visible-all _ a)) (λ k. rw k (all-more h (visible-all _ a)))
-visible-all (inside o) (all-more {x = x} h a) = visible-all _ a
+visible-all (inside o) (all-more {x = x} h a) =
+    split (marked x) (λ k. rw k (all-more h (visible-all _ a))) (λ k. rw k (visible-all _ a))
 
--- ---- V2: at a visible token no comment is open
+-- ---- V2: at a visible token that may stand in a comment none is open
 pub record Shown (l : List Token) (m : Place) (u : List Token) (t : Token) (v : List Token) : Type 0 where
   pub before : List Token
   pub behind : List Token
@@ -83,18 +85,48 @@ first x l (y ∷ u) t v k f e =
       right = c .right;
     }
 
-pub shown-cut : (l : List Token) (m : Place) (u : List Token) (t : Token) (v : List Token)
+-- a keyword that may stand in a comment
+pub plain-key : (k : ℕ) (t : Token) → bracketed (36 ∷ k ∷ []) ≡ false → key k t ≡ true → bracketed (t .bytes) ≡ false
+unfolding key
+plain-key k t n e = ap bracketed (same-eq (t .bytes) (36 ∷ k ∷ []) e) ∙ n
+
+-- the token x may not stand in the comment, and is visible: it is one before t
+spoilt : (x : Token) (l : List Token) (o : ℕ) (u : List Token) (t : Token) (v : List Token) → key 41 x ≡ false → bracketed (x .bytes) ≡ true
+    → bracketed (t .bytes) ≡ false → ((y : List Token) → visible l (inside o) ≡ y ++ (t ∷ v) → Shown l (inside o) y t v)
+    → x ∷ visible l (inside o) ≡ u ++ (t ∷ v) → Shown (x ∷ l) (inside o) u t v
+unfolding visible after
+spoilt x l o [] t v k b n f e =
+    let a : x ≡ t = cc in
+    absurd (clash (sym b ∙ ap (λ (y : Token). bracketed (y .bytes)) a ∙ n))
+spoilt x l o (y ∷ u) t v k b n f e =
+    let a : x ≡ y = cc in
+    let c = f u (cc) in
+    record {
+      before = x ∷ c .before;
+      behind = c .behind;
+      tokens = ap (λ (r : List Token). x ∷ r) (c .tokens);
+      left = rw (b, k) (ap (λ (r : List Token). x ∷ r) (c .left) ∙ rw a);
+      out = rw k (c .out);
+      plain = c .plain;
+      right = c .right;
+    }
+
+pub shown-cut : (l : List Token) (m : Place) (u : List Token) (t : Token) (v : List Token) → bracketed (t .bytes) ≡ false
     → visible l m ≡ u ++ (t ∷ v) → Shown l m u t v
 unfolding visible
-shown-cut [] m u t v e = absurd (not-nil u t v e)
-shown-cut (x ∷ l) outside u t v e =
+shown-cut [] m u t v n e = absurd (not-nil u t v e)
+shown-cut (x ∷ l) outside u t v n e =
     split (key 40 x)
-    (λ k. hidden {n = inside (x .at)} (rw k) (rw k) (shown-cut l (inside (x .at)) u t v (rw k at e)))
-    (λ k. first x l u t v k (λ y. shown-cut l outside y t v) (rw k at e))
-shown-cut (x ∷ l) (inside o) u t v e =
-    split (key 41 x)
-    (λ k. hidden {n = outside} (rw k) refl (shown-cut l outside u t v (rw k at e)))
-    (λ k. hidden {n = inside o} (rw k) refl (shown-cut l (inside o) u t v (rw k at e)))
+    (λ k. hidden {n = inside (x .at)} (rw k) (rw k) (shown-cut l (inside (x .at)) u t v n (rw k at e)))
+    (λ k. first x l u t v k (λ y. shown-cut l outside y t v n) (rw k at e))
+shown-cut (x ∷ l) (inside o) u t v n e =
+    split (bracketed (x .bytes))
+    (λ b. split (key 41 x)
+    (λ k. hidden {n = outside} (rw k) (rw (b, k)) (shown-cut l outside u t v n (rw (b, k) at e)))
+    (λ k. spoilt x l o u t v k b n (λ y. shown-cut l (inside o) y t v n) (rw (b, k) at e)))
+    (λ b. split (key 41 x)
+    (λ k. hidden {n = outside} (rw k) (rw b) (shown-cut l outside u t v n (rw (b, k) at e)))
+    (λ k. hidden {n = inside o} (rw k) (rw b) (shown-cut l (inside o) u t v n (rw (b, k) at e))))
 
 pub shown-after : {l : List Token} {m : Place} {u : List Token} {t : Token} {v : List Token} (c : Shown l m u t v)
     → after l m ≡ after (c .behind) outside

@@ -59,7 +59,11 @@ finish-told (math k o l m) d i n = omega arith
 finish-told (proof o l m p) d i n = omega arith
 
 ending-told : (x : Step) (p : Place) (n : ℕ) → told (ending x p n) ≤ 7
-ending-told (stop o) p n = omega arith
+ending-told (stop o) outside n = omega arith
+ending-told (stop o) (inside c) n =
+    split (ltb c o)
+    (λ e. let k : told (ending (stop o) (inside c) n) ≡ 4 = rw e in omega (arith, k))
+    (λ e. let k : told (ending (stop o) (inside c) n) ≡ 5 = rw e in omega (arith, k))
 ending-told (go m d i) outside n = finish-told m d i n
 ending-told (go m d i) (inside o) n = omega arith
 

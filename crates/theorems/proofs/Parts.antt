@@ -8,14 +8,14 @@ use Prim.Native.Nat.{ℕ, zero, suc, _+_, _<_, _≤_}
 use native.Mathlib.Omega.{arith}
 use lib.ListN.{length, replicate, length-append}
 use Rattle.paper.specs.Tokens.{Token, key, toks, tokens}
-use Rattle.paper.specs.Comments.{Place, outside, inside, after, visible}
+use Rattle.paper.specs.Comments.{Place, outside, inside, after, bracketed, visible}
 use Rattle.paper.specs.Statements.{Statement, Item, opens, closes, closers, ends}
 use Rattle.paper.specs.Reader.{Mode, start, named, math, proof, Step, go, stop, many, given, finish, ending, items}
 use Rattle.paper.proofs.Tests.{same-eq}
 use Rattle.theorems.specs.Groups.{closer, blanked}
 use Rattle.paper.proofs.Alls.{All, all-map}
 use Rattle.theorems.proofs.Tokens.{cut, toks-within, Parts, blanked-parts, toks-parts}
-use Rattle.theorems.proofs.Comments.{after-append, visible-append, visible-all, shown-cut, shown-after}
+use Rattle.theorems.proofs.Comments.{after-append, visible-append, visible-all, plain-key, shown-cut, shown-after}
 use Rattle.theorems.proofs.Reader.{Reads, many-reads, reads-many, reads-append, Level, reads-level, level-shift, TokenAt, ItemAt, reads-at, reads-cut, brace-opened, brace-closed}
 use Rattle.theorems.proofs.Ends.{closers-append, ends-append, ends-at, Owned, owned, neutral, ends-low}
 
@@ -109,10 +109,11 @@ record Places (l u1 : List Token) (tp : Token) (u2 : List Token) (tq : Token) (u
   out-behind : after l outside ≡ after behind outside
 
 places : (l u1 : List Token) (tp : Token) (u2 : List Token) (tq : Token) (u3 : List Token)
-    → visible l outside ≡ u1 ++ (tp ∷ (u2 ++ (tq ∷ u3))) → Places l u1 tp u2 tq u3
-places l u1 tp u2 tq u3 e =
-    let s = shown-cut l outside u1 tp (u2 ++ (tq ∷ u3)) e in
-    let v = shown-cut (s .behind) outside u2 tq u3 (s .right) in
+    → key 123 tp ≡ true → key 125 tq ≡ true → visible l outside ≡ u1 ++ (tp ∷ (u2 ++ (tq ∷ u3))) → Places l u1 tp u2 tq u3
+unfolding bracketed
+places l u1 tp u2 tq u3 a b e =
+    let s = shown-cut l outside u1 tp (u2 ++ (tq ∷ u3)) (plain-key 123 tp refl a) e in
+    let v = shown-cut (s .behind) outside u2 tq u3 (plain-key 125 tq refl b) (s .right) in
     record {
       before = s .before;
       middle = v .before;
@@ -255,7 +256,7 @@ split-group t p q i e c =
     let h = items-read (tokens t) (length t) i e in
     let o = owned i p q c in
     let b = braces (read-reads h) o in
-    let l = places (tokens t) (b .before) (b .left-brace) (b .middle) (b .right-brace) (b .behind) (b .tokens) in
+    let l = places (tokens t) (b .before) (b .left-brace) (b .middle) (b .right-brace) (b .behind) (b .opens-here) (b .closes-here) (b .tokens) in
     let y = bytes-of t (l .before) (l .middle) (l .behind) (b .left-brace) (b .right-brace) p q (l .tokens) (key-bytes 123 (b .left-brace) (b .opens-here)) (b .from) (key-bytes 125 (b .right-brace) (b .closes-here)) (b .to) in
     split-by t p q i o b l y (h .out)
 

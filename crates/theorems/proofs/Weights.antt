@@ -7,7 +7,7 @@ use native.Mathlib.Omega.{arith}
 use lib.ListN.{length, drop}
 use Rattle.paper.specs.Bytes.{white}
 use Rattle.paper.specs.Tokens.{Token, put, run, toks, tokens, key}
-use Rattle.paper.specs.Comments.{Place, outside, inside, next, visible}
+use Rattle.paper.specs.Comments.{Place, outside, inside, next, marked, visible}
 use Rattle.paper.specs.Statements.{Kind, $c, $v, $d, $f, $e, $a, $p, Statement, outermost, Item, opens, closes, states, ends}
 use Rattle.paper.specs.Reader.{given, items}
 use Rattle.paper.specs.State.{Symbol, con, var, Formula, Hyp, float, essential, Disjoint, State, nothing, plus, active-hyp, active-disjoint, view, Sense, inactive, constant, variable, sense}
@@ -46,7 +46,10 @@ visible-weight (t ∷ l) outside =
     split (key 40 t)
     (λ k. rw k (omega (arith, visible-weight l (inside (t .at)))))
     (λ k. rw k (omega (arith, visible-weight l outside)))
-visible-weight (t ∷ l) (inside o) = omega (arith, visible-weight l (next (inside o) t))
+visible-weight (t ∷ l) (inside o) =
+    split (marked t)
+    (λ k. rw k (omega (arith, visible-weight l (next (inside o) t))))
+    (λ k. rw k (omega (arith, visible-weight l (next (inside o) t))))
 
 -- ---- the statements of a text
 abbrev pub statements-weight : List Statement → ℕ

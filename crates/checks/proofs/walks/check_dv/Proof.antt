@@ -9,7 +9,7 @@ use Rattle.checks.proofs.walks.walk_dv.Reads as walk-dv-reads
 use Rattle.slots.proofs.mark.forget_dv.Reads as forget-dv-reads
 
 walk-dv-requires : tie.Need-walk-dv-requires
-walk-dv-requires c κs = rw (c .before .before .before .before .before .pre .1) (c .before .before .before .before .before .pre .0)
+walk-dv-requires c κs = (rw (c .before .before .before .before .before .pre .1) (c .before .before .before .before .before .pre .0), c .before .before .before .before .before .pre .2)
 
 forget-dv-requires : tie.Need-forget-dv-requires
 forget-dv-requires c κs = (room-kept (c .before .before .before .before .before .walk-dv .ensures .kept) (c .before .before .before .before .before .before .before .before .before .before .before .pre .0 .room), atoms-kept (c .before .before .before .before .before .walk-dv .ensures .kept) (c .before .before .before .before .before .before .before .before .before .before .before .pre .0 .atoms))

@@ -2,7 +2,7 @@ use native.Mathlib.Omega.{arith}
 use lib.ListN.{length}
 use Rattle.slots.proofs.Kept.{kept-none}
 use Rattle.checks.specs.Visible.{visible-from, First}
-use Rattle.checks.proofs.Comments.{first-of, none-of}
+use Rattle.checks.proofs.Comments.{first-of, refused-none, none-of, left-calm}
 use Rattle.checks.proofs.Each.{Left, left-start, take-one, left-less, left-none}
 use Rattle.checks.proofs.OverRows.{can-token, InvEap, eap-start, eap-step, eap-end}
 use borrow.Author.Needs.{needs}
@@ -68,7 +68,7 @@ same-length : tie.Need-same-length Inv-loop μ-loop
 same-length c = c .before .before .before .before .loop .inv .0 .len
 
 returns : tie.Need-returns Inv-loop μ-loop
-returns c = eap-end (left-none (c .before .before .before .before .loop .inv .1) (none-of (rw (c .enum-told .given .1) at (c .before .before .next-visible .ensures)))) (c .before .before .before .before .loop .inv .0)
+returns c = eap-end (left-none (c .before .before .before .before .loop .inv .1) (refused-none (rw (c .enum-told .given .1) at (c .before .before .next-visible .ensures)) (left-calm (c .before .before .before .before .before .before .before .before .before .pre .2) (c .before .before .before .before .loop .inv .1)))) (c .before .before .before .before .loop .inv .0)
 
 enum-told-2 : tie.Need-enum-told-2 Inv-loop μ-loop
 enum-told-2 c = search needs

@@ -3,7 +3,7 @@ use native.Mathlib.Omega.{arith}
 use lib.ListN.{length}
 use Rattle.checks.specs.Visible.{visible-from, First}
 use Rattle.checks.specs.Walks.{LastTwo}
-use Rattle.checks.proofs.Comments.{first-of, none-of}
+use Rattle.checks.proofs.Comments.{first-of, refused-none, none-of, left-calm}
 use Rattle.checks.proofs.Each.{Left, left-start, take-one, left-less, left-none}
 use Rattle.checks.proofs.OverPart.{two-start, two-more, two-end}
 use borrow.Author.Needs.{needs}
@@ -59,7 +59,7 @@ enum-told : tie.Need-enum-told Inv-loop μ-loop
 enum-told c = search needs
 
 returns : tie.Need-returns Inv-loop μ-loop
-returns c = two-end (left-none (c .before .before .before .before .loop .inv .1) (none-of (rw (c .enum-told .given .1) at (c .before .before .next-visible .ensures)))) (c .before .before .before .before .loop .inv .2) (c .before .before .before .before .loop .inv .0)
+returns c = two-end (left-none (c .before .before .before .before .loop .inv .1) (refused-none (rw (c .enum-told .given .1) at (c .before .before .next-visible .ensures)) (left-calm (c .before .before .before .before .before .before .before .before .pre .2) (c .before .before .before .before .loop .inv .1)))) (c .before .before .before .before .loop .inv .2) (c .before .before .before .before .loop .inv .0)
 
 enum-told-2 : tie.Need-enum-told-2 Inv-loop μ-loop
 enum-told-2 c = search needs

@@ -2,7 +2,7 @@ use native.Mathlib.Omega.{arith}
 use lib.ListN.{length}
 use Rattle.slots.proofs.Kept.{room-kept}
 use Rattle.checks.specs.Visible.{visible-from, First}
-use Rattle.checks.proofs.Comments.{first-of, none-of}
+use Rattle.checks.proofs.Comments.{first-of, refused-none, none-of, left-calm}
 use Rattle.checks.proofs.Each.{Left, left-start, take-one, left-less, left-none}
 use Rattle.checks.proofs.OverRows.{can-token, InvDv, dv-start, dv-step, dv-end}
 use borrow.Author.Needs.{needs}
@@ -41,19 +41,19 @@ enum-known-d : tie.Need-enum-known-d Inv-loop μ-loop
 enum-known-d c = search needs
 
 add-of-math : tie.Need-add-of-math Inv-loop μ-loop
-add-of-math c = let x = take-one (c .before .before .before .before .before .before .loop .inv .1) (took (c .before)) in omega (arith, x .inside, c .before .before .before .before .before .before .before .before .before .before .before .pre .atoms .rows, c .before .before .before .before .before .before .before .before .before .before .before .pre .room .small)
+add-of-math c = let x = take-one (c .before .before .before .before .before .before .loop .inv .1) (took (c .before)) in omega (arith, x .inside, c .before .before .before .before .before .before .before .before .before .before .before .pre .0 .atoms .rows, c .before .before .before .before .before .before .before .before .before .before .before .pre .0 .room .small)
 
 of-math-requires : tie.Need-of-math-requires Inv-loop μ-loop
-of-math-requires c κs = let x = take-one (c .before .before .before .before .before .before .loop .inv .1) (took (c .before)) in (room-kept (c .before .before .before .before .before .before .loop .inv .0 .kept) (c .before .before .before .before .before .before .before .before .before .before .before .pre .room), omega (arith, x .inside, c .before .before .before .before .before .before .before .before .before .before .before .pre .atoms .rows))
+of-math-requires c κs = let x = take-one (c .before .before .before .before .before .before .loop .inv .1) (took (c .before)) in (room-kept (c .before .before .before .before .before .before .loop .inv .0 .kept) (c .before .before .before .before .before .before .before .before .before .before .before .pre .0 .room), omega (arith, x .inside, c .before .before .before .before .before .before .before .before .before .before .before .pre .0 .atoms .rows))
 
 cast-t17 : tie.Need-cast-t17 Inv-loop μ-loop
-cast-t17 c = let x = take-one (c .before .before .before .before .before .before .before .before .before .loop .inv .1) (took (c .before .before .before .before)) in omega (arith, x .inside, c .before .before .before .before .before .before .before .before .before .before .before .before .before .before .pre .atoms .rows, c .before .before .before .before .before .before .before .before .before .before .before .before .before .before .pre .room .small)
+cast-t17 c = let x = take-one (c .before .before .before .before .before .before .before .before .before .loop .inv .1) (took (c .before .before .before .before)) in omega (arith, x .inside, c .before .before .before .before .before .before .before .before .before .before .before .before .before .before .pre .0 .atoms .rows, c .before .before .before .before .before .before .before .before .before .before .before .before .before .before .pre .0 .room .small)
 
 check-dv-token-requires : tie.Need-check-dv-token-requires Inv-loop μ-loop
-check-dv-token-requires c κs = let x = take-one (c .before .before .before .before .before .before .before .before .before .loop .inv .1) (took (c .before .before .before .before)) in (can-token (c .before .before .before .before .before .before .before .before .before .before .before .before .before .before .pre) (c .before .before .before .before .before .before .before .before .before .loop .inv .0 .kept) (omega (arith, c .before .before .before .before .before .before .before .before .before .loop .inv .0 .few)) (x .inside) (c .before .before .of-math .ensures), omega (arith, x .inside, c .before .before .before .before .before .before .before .before .before .before .before .before .before .before .pre .atoms .rows, c .before .before .before .before .before .before .before .before .before .before .before .before .before .before .pre .room .small))
+check-dv-token-requires c κs = let x = take-one (c .before .before .before .before .before .before .before .before .before .loop .inv .1) (took (c .before .before .before .before)) in (can-token (c .before .before .before .before .before .before .before .before .before .before .before .before .before .before .pre .0) (c .before .before .before .before .before .before .before .before .before .loop .inv .0 .kept) (omega (arith, c .before .before .before .before .before .before .before .before .before .loop .inv .0 .few)) (x .inside) (c .before .before .of-math .ensures), omega (arith, x .inside, c .before .before .before .before .before .before .before .before .before .before .before .before .before .before .pre .0 .atoms .rows, c .before .before .before .before .before .before .before .before .before .before .before .before .before .before .pre .0 .room .small))
 
 add-i : tie.Need-add-i Inv-loop μ-loop
-add-i c = let x = take-one (c .before .before .before .before .before .before .before .before .before .before .before .before .before .before .loop .inv .1) (took (c .before .before .before .before .before .before .before .before .before)) in omega (arith, x .inside, c .before .before .before .before .before .before .before .before .before .before .before .before .before .before .before .before .before .before .before .pre .atoms .rows, c .before .before .before .before .before .before .before .before .before .before .before .before .before .before .before .before .before .before .before .pre .room .small)
+add-i c = let x = take-one (c .before .before .before .before .before .before .before .before .before .before .before .before .before .before .loop .inv .1) (took (c .before .before .before .before .before .before .before .before .before)) in omega (arith, x .inside, c .before .before .before .before .before .before .before .before .before .before .before .before .before .before .before .before .before .before .before .pre .0 .atoms .rows, c .before .before .before .before .before .before .before .before .before .before .before .before .before .before .before .before .before .before .before .pre .0 .room .small)
 
 loop-less : tie.Need-loop-less Inv-loop μ-loop
 loop-less c = left-less (took (c .before .before .before .before .before .before .before .before .before))
@@ -71,7 +71,7 @@ same-length-2 : tie.Need-same-length-2 Inv-loop μ-loop
 same-length-2 c = c .before .before .before .before .loop .inv .0 .len
 
 returns : tie.Need-returns Inv-loop μ-loop
-returns c = dv-end (left-none (c .before .before .before .before .loop .inv .1) (none-of (rw (c .enum-told .given .1) at (c .before .before .next-visible .ensures)))) (c .before .before .before .before .loop .inv .0)
+returns c = dv-end (left-none (c .before .before .before .before .loop .inv .1) (refused-none (rw (c .enum-told .given .1) at (c .before .before .next-visible .ensures)) (left-calm (c .before .before .before .before .before .before .before .before .before .pre .1) (c .before .before .before .before .loop .inv .1)))) (c .before .before .before .before .loop .inv .0)
 
 enum-told-2 : tie.Need-enum-told-2 Inv-loop μ-loop
 enum-told-2 c = search needs

@@ -2,7 +2,7 @@ use native.Mathlib.Omega.{arith}
 use lib.ListN.{length}
 use Rattle.slots.proofs.Kept.{kept-none}
 use Rattle.checks.specs.Visible.{visible-from}
-use Rattle.checks.proofs.Comments.{first-of, none-of}
+use Rattle.checks.proofs.Comments.{first-of, refused-none, none-of, left-calm}
 use Rattle.checks.proofs.OverRows.{can-token}
 use Rattle.checks.proofs.Each.{take-one, left-less}
 use Rattle.checks.proofs.OverPart.{InvOuter, outer-start, outer-step, outer-end}
@@ -68,7 +68,7 @@ same-length : tie.Need-same-length Inv-loop μ-loop
 same-length c = c .before .before .before .before .loop .inv .len
 
 returns : tie.Need-returns Inv-loop μ-loop
-returns c = outer-end (none-of (rw (c .enum-told .given .1) at (c .before .before .next-visible .ensures))) (c .before .before .before .before .loop .inv)
+returns c = outer-end (refused-none (rw (c .enum-told .given .1) at (c .before .before .next-visible .ensures)) (left-calm (c .before .before .before .before .before .before .before .before .before .pre .calm) (c .before .before .before .before .loop .inv .left))) (c .before .before .before .before .loop .inv)
 
 enum-told-2 : tie.Need-enum-told-2 Inv-loop μ-loop
 enum-told-2 c = search needs

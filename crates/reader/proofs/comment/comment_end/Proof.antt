@@ -1,61 +1,57 @@
-use mathlib.Core.Path.{_≡_, refl, sym, _∙_}
-use Prim.Native.Nat.{_-_, _≤_}
-use lib.ListN.{length}
-use Rattle.reader.specs.Dollar.{seek}
-use Rattle.reader.proofs.Dollars.{loop-none, loop-some, loop-on}
+use mathlib.Core.Path.{sym, _∙_}
+use borrow.Author.Tests.{not-true, not-false}
+use Rattle.reader.proofs.Marks.{comment-unmarked, comment-closed, comment-never, comment-bad}
 use borrow.Author.Needs.{needs}
 use Rattle.reader.proofs.comment.comment_end.Statement.{statement}
 use Rattle.reader.proofs.comment.comment_end.Tie as tie
 use Rattle.reader.proofs.comment.comment_end.Reads as reads
 use Rattle.reader.proofs.comment.comment_end.Lts as lts
 use Rattle.reader.proofs.comment.closes_at.Reads as closes-at-reads
-use Rattle.reader.proofs.comment.next_dollar.Reads as next-dollar-reads
+use Rattle.reader.proofs.comment.closes_from.Reads as closes-from-reads
+use Rattle.reader.proofs.comment.next_mark.Reads as next-mark-reads
+use Rattle.reader.proofs.comment.start_of.Reads as start-of-reads
 
-abbrev Inv-loop : tie.InvT-loop
-Inv-loop table text at i₀ i = (seek text at i ≡ seek text at at) × (at ≤ i) × (i ≤ length text)
+next-mark-requires : tie.Need-next-mark-requires
+next-mark-requires c κs = search needs
 
-abbrev μ-loop : tie.MeasureT-loop
-μ-loop table text at i₀ i = length text - i
+returns : tie.Need-returns
+returns c = comment-unmarked (c .before .next-mark .ensures) (c .if1 .taken)
 
-loop-holds : tie.Need-loop-holds Inv-loop μ-loop
-loop-holds c = (refl, search needs, search needs)
-
-next-dollar-requires : tie.Need-next-dollar-requires Inv-loop μ-loop
-next-dollar-requires c κs = search needs
-
-returns : tie.Need-returns Inv-loop μ-loop
-returns c = loop-none _ _ (c .before .before .loop .inv .1) (c .before .before .loop .inv .0) (c .before .next-dollar .ensures) (c .if1 .taken)
-
-closes-at-requires : tie.Need-closes-at-requires Inv-loop μ-loop
+closes-at-requires : tie.Need-closes-at-requires
 closes-at-requires c κs = search needs
 
-add-t10 : tie.Need-add-t10 Inv-loop μ-loop
-add-t10 c = search needs
+add-t9 : tie.Need-add-t9
+add-t9 c = search needs
 
-returns-2 : tie.Need-returns-2 Inv-loop μ-loop
-returns-2 c = loop-some _ _ (c .before .before .before .before .loop .inv .1) (c .before .before .before .before .loop .inv .0) (c .before .before .before .next-dollar .ensures) (search needs) (sym (c .before .closes-at .ensures) ∙ c .if2 .taken)
+returns-2 : tie.Need-returns-2
+returns-2 c = comment-closed (c .before .before .before .next-mark .ensures) (search needs) (sym (c .before .closes-at .ensures) ∙ c .if2 .taken)
 
-add-i : tie.Need-add-i Inv-loop μ-loop
-add-i c = search needs
+add-closes-from : tie.Need-add-closes-from
+add-closes-from c = search needs
 
-loop-less : tie.Need-loop-less Inv-loop μ-loop
-loop-less c = search needs
+closes-from-requires : tie.Need-closes-from-requires
+closes-from-requires c κs = search needs
 
-loop-again : tie.Need-loop-again Inv-loop μ-loop
-loop-again c = (loop-on _ _ (c .before .before .before .before .loop .inv .1) (c .before .before .before .before .loop .inv .0) (c .before .before .before .next-dollar .ensures) (search needs) (sym (c .before .closes-at .ensures) ∙ c .if2 .left), search needs, search needs)
+returns-3 : tie.Need-returns-3
+returns-3 c = comment-never (c .before .before .before .before .before .next-mark .ensures) (search needs) (sym (c .before .before .before .closes-at .ensures) ∙ c .before .before .if2 .left) (sym (c .before .closes-from .ensures) ∙ not-true _ (c .if3 .taken))
+
+start-of-requires : tie.Need-start-of-requires
+start-of-requires c κs = search needs
+
+returns-4 : tie.Need-returns-4
+returns-4 c = comment-bad (c .before .before .before .before .before .before .next-mark .ensures) (search needs) (sym (c .before .before .before .before .closes-at .ensures) ∙ c .before .before .before .if2 .left) (sym (c .before .before .closes-from .ensures) ∙ not-false _ (c .before .if3 .left)) (c .start-of .ensures)
 
 pub comment-end-spec : {M : Type 1} → statement M
 comment-end-spec =
     tie.close
     (tie.spec
-    Inv-loop
-    μ-loop
-    loop-holds
-    next-dollar-requires
+    next-mark-requires
     returns
     closes-at-requires
-    add-t10
+    add-t9
     returns-2
-    add-i
-    loop-less
-    loop-again)
+    add-closes-from
+    closes-from-requires
+    returns-3
+    start-of-requires
+    returns-4)

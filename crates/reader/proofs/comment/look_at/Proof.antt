@@ -4,7 +4,7 @@ use borrow.Author.Tests.{not-true, not-false}
 use Rattle.paper.specs.Tokens.{key}
 use Rattle.token.specs.Words.{Read}
 use Rattle.token.proofs.Read.{read-token, read-done}
-use Rattle.reader.proofs.Passes.{look-plain, look-math, look-open, look-past, look-done}
+use Rattle.reader.proofs.Looks.{look-plain, look-math, look-past, look-open, look-bad, look-done}
 use borrow.Author.Needs.{needs}
 use Rattle.reader.proofs.comment.look_at.Statement.{statement}
 use Rattle.reader.proofs.comment.look_at.Tie as tie
@@ -54,19 +54,26 @@ returns-3 c = look-plain (took (c .before .before .before .before .before)) (sym
 comment-end-requires : tie.Need-comment-end-requires
 comment-end-requires c κs = (c .before .before .before .before .before .before .before .before .before .before .pre, rw (took (c .before .before .before .before .before) .stands) (took (c .before .before .before .before .before) .whole .within))
 
-enum-known-after : tie.Need-enum-known-after
-enum-known-after c = search needs
+enum-known-e : tie.Need-enum-known-e
+enum-known-e c = search needs
+
+enum-known-p : tie.Need-enum-known-p
+enum-known-p c = search needs
 
 enum-told-2 : tie.Need-enum-told-2
 enum-told-2 c = search needs
 
 returns-4 : tie.Need-returns-4
 unfolding key
-returns-4 c = look-open (took (c .before .before .before .before .before .before .before .before)) (sym (c .before .before .before .before .is-key .ensures) ∙ not-false _ (c .before .before .before .if2 .left)) (rw (c .enum-told2 .given .1) at (c .before .before .comment-end .ensures))
+returns-4 c = look-past (took (c .before .before .before .before .before .before .before .before .before)) (sym (c .before .before .before .before .before .is-key .ensures) ∙ not-false _ (c .before .before .before .before .if2 .left)) _ (rw (c .before .e .given .1) at (c .before .before .before .comment-end .ensures))
 
 returns-5 : tie.Need-returns-5
 unfolding key
-returns-5 c = look-past (took (c .before .before .before .before .before .before .before .before .before)) (sym (c .before .before .before .before .before .is-key .ensures) ∙ not-false _ (c .before .before .before .before .if2 .left)) _ (rw (c .before .after .given .1) at (c .before .before .before .comment-end .ensures))
+returns-5 c = look-bad (took (c .before .before .before .before .before .before .before .before .before)) (sym (c .before .before .before .before .before .is-key .ensures) ∙ not-false _ (c .before .before .before .before .if2 .left)) _ (rw (c .before .p .given .1) at (c .before .before .before .comment-end .ensures))
+
+returns-6 : tie.Need-returns-6
+unfolding key
+returns-6 c = look-open (took (c .before .before .before .before .before .before .before .before)) (sym (c .before .before .before .before .is-key .ensures) ∙ not-false _ (c .before .before .before .if2 .left)) (rw (c .enum-told2 .given .1) at (c .before .before .comment-end .ensures))
 
 pub look-at-spec : {M : Type 1} → statement M
 look-at-spec =
@@ -83,7 +90,9 @@ look-at-spec =
     is-key-requires
     returns-3
     comment-end-requires
-    enum-known-after
+    enum-known-e
+    enum-known-p
     enum-told-2
     returns-4
-    returns-5)
+    returns-5
+    returns-6)

@@ -6,6 +6,7 @@ use Rattle.paper.specs.Comments.{outside}
 use Rattle.token.specs.Words.{tokens-from}
 use Rattle.reader.specs.Passed.{Passed}
 use Rattle.reader.proofs.Passes.{passed-none, passed-then, shows-after}
+use Rattle.reader.proofs.Looks.{refuses-after}
 use borrow.Author.Needs.{needs}
 use Rattle.reader.proofs.comment.next_visible.Statement.{statement}
 use Rattle.reader.proofs.comment.next_visible.Tie as tie
@@ -42,11 +43,11 @@ loop-again c =
     let h = rw (c .before .d .given .1) at (c .before .before .before .look-at .ensures) in
     (passed-then (c .before .before .before .before .loop .inv .0) (h .0), omega (arith, c .before .before .before .before .loop .inv .1, h .2))
 
-enum-known-p : tie.Need-enum-known-p Inv-loop μ-loop
-enum-known-p c = search needs
+enum-known-x-2 : tie.Need-enum-known-x-2 Inv-loop μ-loop
+enum-known-x-2 c = search needs
 
 returns-2 : tie.Need-returns-2 Inv-loop μ-loop
-returns-2 c = passed-then (c .before .before .before .before .loop .inv .0) (rw (c .before .p .given .1) at (c .before .before .before .look-at .ensures))
+returns-2 c = refuses-after (c .before .before .before .before .loop .inv .0) (rw (c .before .x2 .given .1) at (c .before .before .before .look-at .ensures))
 
 enum-told : tie.Need-enum-told Inv-loop μ-loop
 enum-told c = search needs
@@ -67,7 +68,7 @@ next-visible-spec =
     enum-known-d
     loop-less
     loop-again
-    enum-known-p
+    enum-known-x-2
     returns-2
     enum-told
     returns-3)

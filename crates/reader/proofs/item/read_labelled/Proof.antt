@@ -1,6 +1,6 @@
 use native.Mathlib.Omega.{arith}
 use Rattle.reader.specs.Passed.{Shows}
-use Rattle.reader.proofs.Items.{label-end, label-open, label-bad, label-begun}
+use Rattle.reader.proofs.Items.{label-end, label-refused, label-bad, label-begun}
 use borrow.Author.Needs.{needs}
 use Rattle.reader.proofs.item.read_labelled.Statement.{statement}
 use Rattle.reader.proofs.item.read_labelled.Tie as tie
@@ -22,8 +22,8 @@ next-visible-requires c κs = search needs
 enum-told : tie.Need-enum-told
 enum-told c = search needs
 
-enum-known-p : tie.Need-enum-known-p
-enum-known-p c = search needs
+enum-known-x : tie.Need-enum-known-x
+enum-known-x c = search needs
 
 enum-known-y : tie.Need-enum-known-y
 enum-known-y c = search needs
@@ -34,8 +34,8 @@ label-code-requires c κs = (omega (arith, shows c .whole .some), omega (arith, 
 returns : tie.Need-returns
 returns c = label-bad (c .before .before .before .before .before .before .before .before .pre .1) (c .before .before .before .before .before .before .before .before .pre .2) (c .before .before .before .before .before .before .before .before .pre .3) (shows (c .before .before)) (c .before .label-code .ensures) (c .if1 .taken)
 
-sub-t25 : tie.Need-sub-t25
-sub-t25 c = omega (arith, c .before .before .before .before .before .before .before .before .pre .2 .whole .some)
+sub-t23 : tie.Need-sub-t23
+sub-t23 c = omega (arith, c .before .before .before .before .before .before .before .before .pre .2 .whole .some)
 
 read-body-requires : tie.Need-read-body-requires
 read-body-requires c κs = (c .before .before .before .before .before .before .before .before .before .pre .0, label-begun (c .before .before .before .before .before .before .before .before .before .pre .1) (c .before .before .before .before .before .before .before .before .before .pre .2) (c .before .before .before .before .before .before .before .before .before .pre .3) (shows (c .before .before .before)) (c .before .before .label-code .ensures) (c .before .if1 .left))
@@ -44,7 +44,7 @@ returns-2 : tie.Need-returns-2
 returns-2 c = label-end (c .before .before .before .before .before .pre .1) (c .before .before .before .before .before .pre .2) (c .before .before .before .before .before .pre .3) (rw (c .enum-told .given .1) at (c .before .before .next-visible .ensures))
 
 returns-3 : tie.Need-returns-3
-returns-3 c = label-open (c .before .before .before .before .before .before .pre .1) (c .before .before .before .before .before .before .pre .2) (c .before .before .before .before .before .before .pre .3) (rw (c .before .p .given .1) at (c .before .before .before .next-visible .ensures))
+returns-3 c = label-refused (c .before .before .before .before .before .before .pre .1) (c .before .before .before .before .before .before .pre .2) (c .before .before .before .before .before .before .pre .3) (rw (c .before .x .given .1) at (c .before .before .before .next-visible .ensures))
 
 same-length : tie.Need-same-length
 same-length c = search needs
@@ -58,11 +58,11 @@ read-labelled-spec =
     (tie.spec
     next-visible-requires
     enum-told
-    enum-known-p
+    enum-known-x
     enum-known-y
     label-code-requires
     returns
-    sub-t25
+    sub-t23
     read-body-requires
     returns-2
     returns-3

@@ -1,5 +1,4 @@
 use mathlib.Core.Path.{refl}
-use Rattle.reader.proofs.Grammar.{refuse-open}
 use Rattle.reader.proofs.Items.{taken}
 use borrow.Author.Needs.{needs}
 use Rattle.reader.proofs.item.read_one.Statement.{statement}
@@ -15,20 +14,20 @@ next-visible-requires c κs = search needs
 enum-told : tie.Need-enum-told
 enum-told c = search needs
 
-enum-known-p : tie.Need-enum-known-p
-enum-known-p c = search needs
-
 enum-known-x : tie.Need-enum-known-x
 enum-known-x c = search needs
 
+enum-known-x-2 : tie.Need-enum-known-x-2
+enum-known-x-2 c = search needs
+
 read-from-requires : tie.Need-read-from-requires
-read-from-requires c κs = (c .before .before .before .before .before .before .before .pre .0, c .before .before .before .before .before .before .before .pre .1, rw (c .before .before .x .given .1) at (c .before .before .before .before .next-visible .ensures))
+read-from-requires c κs = (c .before .before .before .before .before .before .before .pre .0, c .before .before .before .before .before .before .before .pre .1, rw (c .before .before .x2 .given .1) at (c .before .before .before .before .next-visible .ensures))
 
 returns : tie.Need-returns
 returns c = (rw (c .enum-told .given .1) at (c .before .before .next-visible .ensures), refl)
 
 returns-2 : tie.Need-returns-2
-returns-2 c = refuse-open (c .before .before .before .before .before .before .pre .1 .reached) (rw (c .before .p .given .1) at (c .before .before .before .next-visible .ensures)) _
+returns-2 c = (rw (c .before .x .given .1) at (c .before .before .before .next-visible .ensures)) .items-are (c .before .before .before .before .before .before .pre .1 .reached)
 
 same-length : tie.Need-same-length
 same-length c = search needs
@@ -42,8 +41,8 @@ read-one-spec =
     (tie.spec
     next-visible-requires
     enum-told
-    enum-known-p
     enum-known-x
+    enum-known-x-2
     read-from-requires
     returns
     returns-2

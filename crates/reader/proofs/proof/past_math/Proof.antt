@@ -5,7 +5,7 @@ use Rattle.reader.proofs.proof.past_math.Tie as tie
 use Rattle.reader.proofs.proof.past_math.Reads as reads
 use Rattle.reader.proofs.proof.past_math.Lts as lts
 use Rattle.reader.proofs.proof.next_odd.Reads as next-odd-reads
-use Rattle.reader.proofs.proof.start_of.Reads as start-of-reads
+use Rattle.reader.proofs.comment.start_of.Reads as start-of-reads
 
 next-odd-requires : tie.Need-next-odd-requires
 next-odd-requires c κs = search needs

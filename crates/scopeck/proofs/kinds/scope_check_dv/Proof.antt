@@ -1,6 +1,6 @@
 use mathlib.Core.Path.{refl}
 use native.Mathlib.Omega.{arith}
-use Rattle.scopeck.proofs.Ready.{row-room, walk-of, part-counted}
+use Rattle.scopeck.proofs.Ready.{row-room, walk-of, part-counted, part-calm}
 use Rattle.slots.proofs.Kept.{room-kept}
 use Rattle.scopeck.proofs.Unlabelled.{dv-rejected, dv-accepted}
 use borrow.Author.Needs.{needs}
@@ -17,7 +17,7 @@ read-row-requires : tie.Need-read-row-requires
 read-row-requires c κs = (c .before .before .before .before .pre .0 .holds .room, row-room (c .before .before .before .before .pre .0 .holds))
 
 check-dv-requires : tie.Need-check-dv-requires
-check-dv-requires c κs = let b = c .before .before .before .before .before .before .before .pre .0 in (walk-of (b .holds) (c .before .before .read-row .ensures), part-counted (b .holds) (c .before .before .read-row .ensures) (b .part) refl)
+check-dv-requires c κs = let b = c .before .before .before .before .before .before .before .pre .0 in (walk-of (b .holds) (c .before .before .read-row .ensures), part-counted (b .holds) (c .before .before .read-row .ensures) (b .part) refl, part-calm (b .holds) (c .before .before .read-row .ensures) (b .part) refl)
 
 move-to-requires : tie.Need-move-to-requires
 move-to-requires c κs = search needs

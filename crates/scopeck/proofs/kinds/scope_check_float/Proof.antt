@@ -1,6 +1,6 @@
 use mathlib.Core.Path.{refl}
 use native.Mathlib.Omega.{arith}
-use Rattle.scopeck.proofs.Ready.{row-room, can-labelled, can-float, walk-of, part-counted, two-of}
+use Rattle.scopeck.proofs.Ready.{row-room, can-labelled, can-float, walk-of, part-counted, part-calm, two-of}
 use Rattle.scopeck.proofs.Labelled.{borne-at, later-bearer}
 use Rattle.scopeck.proofs.Floating.{float-rejected, float-accepted}
 use borrow.Author.Needs.{needs}
@@ -44,7 +44,7 @@ returns : tie.Need-returns
 returns c = later-bearer (c .before .before .before .before .before .before .before .before .before .before .read-row .ensures) (c .move-to .ensures) (omega (arith, c .before .before .before .before .before .before .before .before .before .before .before .before .before .before .before .pre .1)) (rw (c .before .before .before .before .before .before .enum-told2 .given .1) at (c .before .before .before .before .before .before .before .before .check-label-dup .ensures)) (c .before .before .before .check-label .ensures)
 
 float-tokens-requires : tie.Need-float-tokens-requires
-float-tokens-requires c κs = let b = c .before .before .before .before .before .before .before .before .before .before .pre .0 .holds in (b .room, omega (arith, walk-of b (c .before .before .before .before .before .read-row .ensures) .atoms .rows, part-counted b (c .before .before .before .before .before .read-row .ensures) (c .before .before .before .before .before .before .before .before .before .before .pre .0 .part) refl))
+float-tokens-requires c κs = let b = c .before .before .before .before .before .before .before .before .before .before .pre .0 .holds in (b .room, omega (arith, walk-of b (c .before .before .before .before .before .read-row .ensures) .atoms .rows, part-counted b (c .before .before .before .before .before .read-row .ensures) (c .before .before .before .before .before .before .before .before .before .before .pre .0 .part) refl), part-calm b (c .before .before .before .before .before .read-row .ensures) (c .before .before .before .before .before .before .before .before .before .before .pre .0 .part) refl)
 
 check-float-requires : tie.Need-check-float-requires
 check-float-requires c κs = let two = two-of (c .before .before .before .before .before .before .before .before .before .before .before .before .before .pre .0 .holds) (c .before .before .before .before .before .before .before .before .read-row .ensures) (c .before .before .before .before .before .before .before .before .before .before .before .before .before .pre .1) (c .before .before .before .before .before .before .before .before .before .before .before .before .before .pre .0 .part) (c .before .before .float-tokens .ensures) in can-float (c .before .before .before .before .before .before .before .before .before .before .before .before .before .pre .0 .holds) (c .before .before .before .before .before .before .before .before .read-row .ensures) (c .before .before .before .before .before .before .before .before .before .before .before .before .before .pre .1) (two .0) (two .1)

@@ -8,10 +8,10 @@ use Rattle.paper.specs.Bytes.{white}
 use Rattle.token.proofs.Classes.{is-white, not-white}
 use Rattle.reader.proofs.Hops.{inside-more}
 use borrow.Author.Needs.{needs}
-use Rattle.reader.proofs.proof.start_of.Statement.{statement}
-use Rattle.reader.proofs.proof.start_of.Tie as tie
-use Rattle.reader.proofs.proof.start_of.Reads as reads
-use Rattle.reader.proofs.proof.start_of.Lts as lts
+use Rattle.reader.proofs.comment.start_of.Statement.{statement}
+use Rattle.reader.proofs.comment.start_of.Tie as tie
+use Rattle.reader.proofs.comment.start_of.Reads as reads
+use Rattle.reader.proofs.comment.start_of.Lts as lts
 use Rattle.token.proofs.class.class_of.Reads as class-of-reads
 
 abbrev Inv-loop : tie.InvT-loop
