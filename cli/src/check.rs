@@ -48,7 +48,8 @@ pub fn failed(out: &mut Out, name: &OsStr, failure: &Failure, options: &Options)
     Ok(failure.status)
 }
 
-fn one(out: &mut Out, name: &OsStr, done: &Done, options: &Options) -> io::Result<Status> {
+/// The diagnostics of one text and its counts, or its refusal.
+pub fn one(out: &mut Out, name: &OsStr, done: &Done, options: &Options) -> io::Result<Status> {
     let source = Source::of(name, &done.text);
     let streams = match &done.answer {
         Answer::Refused(refusal) => return refused(out, &source, *refusal, options),

@@ -26,8 +26,8 @@ are compared byte for byte: 417 and 0417 are two labels.",
     Rule {
         rule: "A symbol must be declared before it is used, by a $c or $v that is active: outside all groups, or for a $v
 in the same group or one around it. At the end of its group a variable is no longer active.",
-        wrong: "$c c $. ${ $v x $. $} $d x x $.",
-        mended: "$c c $. $v x y $. $d x y $.",
+        wrong: "a $a c $.",
+        mended: "$c c $. a $a c $.",
     },
     Rule {
         rule: "The first symbol of a $e, $a or $p is its typecode, and a typecode is a constant.",

@@ -7,7 +7,7 @@ use crate::job::{Done, Job};
 use crate::json;
 use crate::lend::{self, Answer, Found};
 use crate::out::{complain, Ink, Out};
-use crate::place::token_at;
+use crate::place::{bearer as bearer_of, token_at};
 use crate::plain;
 use crate::similar;
 use crate::source::Source;
@@ -96,8 +96,11 @@ fn absent(out: &mut Out, stock: &Stock, label: &[u8], options: &Options) -> io::
         return Ok(Status::Reported);
     }
     let joined = |labels: &[&[u8]]| labels.iter().map(|label| plain::token(label)).collect::<Vec<_>>().join(" ");
-    let (name, label) = (plain::file_name(stock.name), plain::token(label));
-    complain(options, &format!("janorembe: {name}: no frame bears the label `{label}` [number 11]"));
+    let (name, shown) = (plain::file_name(stock.name), plain::token(label));
+    complain(options, &format!("janorembe: {name}: no frame bears the label `{shown}` [number 11]"));
+    if let Some(bearer) = bearer(stock, label) {
+        complain(options, &format!("  hint: {bearer}"));
+    }
     if !zeros.is_empty() {
         complain(options, &format!("  differing in leading zeros: {}", joined(&zeros)));
     }
@@ -105,6 +108,13 @@ fn absent(out: &mut Out, stock: &Stock, label: &[u8], options: &Options) -> io::
         complain(options, &format!("  hint: similar: {}", joined(&near)));
     }
     Ok(Status::Reported)
+}
+
+/// A statement that bears the label but has no frame: a `$e`, or one with an error.
+fn bearer(stock: &Stock, label: &[u8]) -> Option<String> {
+    let source = stock.source?;
+    let at = bearer_of(source.text, label)?;
+    Some(format!("borne in line {} by a statement that has no frame", source.place(at.start).0))
 }
 
 fn found(out: &mut Out, stock: &Stock, label: &[u8], at: usize, options: &Options) -> io::Result<Status> {

@@ -91,18 +91,49 @@ pub fn statement(text: &[u8], offset: usize) -> Option<Statement> {
     }
 }
 
+/// What is open where a walk over the text stands: groups, and the first token of a statement.
+struct Open {
+    groups: Vec<Span>,
+    statement: Option<Span>,
+}
+
+impl Open {
+    /// One token further. The first token of a statement is handed back when it is met.
+    fn take(&mut self, text: &[u8], token: Span) -> Option<Span> {
+        match &text[token.clone()] {
+            b"${" => self.groups.push(token),
+            b"$}" => drop(self.groups.pop()),
+            b"$." => self.statement = None,
+            _ if self.statement.is_none() => {
+                self.statement = Some(token.clone());
+                return Some(token);
+            }
+            _ => {}
+        }
+        None
+    }
+}
+
 /// What is open where the text ends: the first token of the last statement, or the innermost `${`.
 pub fn unclosed(text: &[u8]) -> Option<Span> {
-    let (mut groups, mut open) = (Vec::new(), None);
+    let mut open = Open { groups: Vec::new(), statement: None };
     let mut at = 0;
     while let Some(token) = next_visible(text, at) {
         at = token.end;
-        match &text[token.clone()] {
-            b"${" => groups.push(token),
-            b"$}" => drop(groups.pop()),
-            b"$." => open = None,
-            _ => open = open.or(Some(token)),
+        open.take(text, token);
+    }
+    open.statement.or(open.groups.pop())
+}
+
+/// The first statement that bears a label, frame or not.
+pub fn bearer(text: &[u8], label: &[u8]) -> Option<Span> {
+    let mut open = Open { groups: Vec::new(), statement: None };
+    let mut at = 0;
+    while let Some(token) = next_visible(text, at) {
+        at = token.end;
+        if let Some(first) = open.take(text, token).filter(|first| text[first.clone()] == *label) {
+            return Some(first);
         }
     }
-    open.or(groups.pop())
+    None
 }
