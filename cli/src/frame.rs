@@ -139,7 +139,10 @@ fn found(out: &mut Out, stock: &Stock, label: &[u8], at: usize, options: &Option
     let (label, keyword) = (plain::ascii(label), frame.keyword());
     match &frame {
         Frame::Float(float) => {
-            out.line(&format!("{place} {label} {keyword} {}", statement(float.typecode, &[float.variable.clone()])))?;
+            out.line(&format!(
+                "{place} {label} {keyword} {}",
+                statement(float.typecode, std::slice::from_ref(&float.variable))
+            ))?;
             float_parts(out, stock, float)?;
         }
         Frame::Assertion(a) => {

@@ -57,12 +57,16 @@ fn guess(text: &[u8], words: u64) -> Lengths {
     Lengths { frames: 2 * text.len() as u64, diags: words / WORDS_A_TOKEN * DIAGNOSTICS_A_TOKEN }
 }
 
-/// Just the lengths that a text needs: the places of numbers 8 and 9. A text that is refused needs none.
-fn measured(text: &[u8], work: &mut [u32]) -> Lengths {
+/// Just the lengths that a text needs: the places of numbers 8 and 9. A text that is refused needs none. If the frames alone are
+/// more than is allowed, the diagnostics are not asked for.
+fn measured(text: &[u8], work: &mut [u32], memory: u64) -> Lengths {
     let frames = check(text, work, &mut [], &mut []);
     let mut lengths = Lengths { frames: 0, diags: 0 };
     if frames.number == 8 {
         lengths.frames = frames.place;
+    }
+    if allow(lengths.frames, memory).is_err() {
+        return lengths;
     }
     let diags = check(text, work, &mut zeroed(lengths.frames), &mut []);
     if diags.number == 9 {
@@ -105,7 +109,7 @@ pub fn streams(text: &[u8], memory: u64) -> Result<Answer, Failure> {
     let mut lengths = guess(text, words);
     for _ in 0..3 {
         if allow(words * WORD + lengths.frames + lengths.diags, memory).is_err() {
-            lengths = measured(text, &mut work);
+            lengths = measured(text, &mut work, memory);
             allow(words * WORD + lengths.frames + lengths.diags, memory)?;
         }
         let (mut frames, mut diags) = (zeroed(lengths.frames), zeroed(lengths.diags));

@@ -108,31 +108,29 @@ impl Cut {
 
 /// The bytes of a line that are shown: all, or as many around the token as fit between the dots.
 fn window(text: &[u8], line: &Span, token: &Span) -> Span {
-    let wide = |span: Span| text[span].iter().map(|&byte| columns(byte)).take(WIDTH + 1).sum::<usize>();
-    if wide(line.clone()) <= WIDTH {
+    let all = text[line.clone()].iter().map(|&byte| columns(byte)).take(WIDTH + 1).sum::<usize>();
+    if all <= WIDTH {
         return line.clone();
     }
     let mut room = WIDTH - 6;
-    let (mut from, mut to) = (token.start, token.start);
-    let mut fits = |at: usize| {
-        let needed = columns(text[at]);
-        let fit = needed <= room;
-        room -= if fit { needed } else { room };
-        fit
-    };
-    while to < token.end.min(line.end) && fits(to) {
-        to += 1;
+    let mut kept = token.start..token.start;
+    while kept.end < token.end && take(&mut room, text[kept.end]) {
+        kept.end += 1;
     }
     loop {
-        let held = (from, to);
-        if from > line.start && fits(from - 1) {
-            from -= 1;
-        }
-        if to < line.end && fits(to) {
-            to += 1;
-        }
-        if held == (from, to) {
-            return from..to;
+        let left = kept.start > line.start && take(&mut room, text[kept.start - 1]);
+        kept.start -= usize::from(left);
+        let right = kept.end < line.end && take(&mut room, text[kept.end]);
+        kept.end += usize::from(right);
+        if !left && !right {
+            return kept;
         }
     }
+}
+
+/// Takes the columns of a byte from those that are left, if it fits.
+fn take(room: &mut usize, byte: u8) -> bool {
+    let left = room.checked_sub(columns(byte));
+    *room = left.unwrap_or(*room);
+    left.is_some()
 }
