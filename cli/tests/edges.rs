@@ -2,6 +2,7 @@
 
 mod common;
 
+use common::host::look_ups;
 use common::{many_variables, Folder, Ran, KINDS};
 use std::ffi::OsStr;
 use std::io::{BufRead, BufReader, Write};
@@ -186,6 +187,27 @@ fn labels_are_bytes() {
         got.out
     );
     assert!(got.out.contains("\"label\":\"caf<c3><a9>\",\"label_hex\":\"636166c3a9\""), "{}", got.out);
+}
+
+/// The recorded look-ups: number 10 is status 2 with the record's offset, number 11 status 1; a record that is found is shown if its
+/// payload fits its layout, and status 3 if it does not.
+#[test]
+fn recorded_look_ups() {
+    let folder = Folder::of("look-ups");
+    let mut statuses = [0; 4];
+    for v in look_ups() {
+        folder.put("stream", &v.stream);
+        let words = ["frame", "--json", "--stream", "stream", "--"].map(OsStr::new);
+        let got = folder.run(&[&words[..], &[OsStr::from_bytes(&v.label)]].concat());
+        let place = format!("\"number\":10,\"place\":{},", v.place);
+        match v.number {
+            10 => assert!(got.status == 2 && got.out.contains(&place), "{}: {}", v.name, got.out),
+            11 => assert!(got.status == 1 && got.out.contains("\"absent\""), "{}: {}", v.name, got.out),
+            _ => assert!(got.status == 0 || got.status == 3, "{}: {}", v.name, got.out),
+        }
+        statuses[got.status as usize] += 1;
+    }
+    assert!(statuses.iter().all(|&count| count > 0), "{statuses:?}");
 }
 
 /// The output of several files is in their order, whatever is done at the same time.
