@@ -15,8 +15,11 @@ ARCHIVE = target/staticlib/libcapi.a
 all:
 	tools/build
 
-$(TOOL) $(ARCHIVE):
+$(ARCHIVE):
 	tools/build
+
+$(TOOL): $(ARCHIVE)
+	cd cli && cargo build --release --offline
 
 install: $(TOOL) $(ARCHIVE)
 	install -d $(DESTDIR)$(BINDIR) $(DESTDIR)$(INCLUDEDIR) $(DESTDIR)$(LIBDIR)/pkgconfig $(DESTDIR)$(MANDIR)

@@ -43,6 +43,7 @@ pub fn failed(out: &mut Out, name: &OsStr, failure: &Failure, options: &Options)
         let object = Object::of("failed").file(name).text("message", &failure.message);
         out.line(&object.put("status", failure.status as u8).end())?;
     } else {
+        out.flush()?;
         complain(options, &format!("janorembe: {}: {}", plain::file_name(name), failure.message));
     }
     Ok(failure.status)

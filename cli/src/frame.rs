@@ -3,9 +3,9 @@
 use crate::check;
 use crate::decode::{self, Assertion, Float, Frame, Hypothesis};
 use crate::input;
-use crate::job::{Done, Job};
 use crate::json;
-use crate::lend::{self, Answer, Found};
+use crate::lend::{self, Found};
+use crate::open::open;
 use crate::out::{complain, Ink, Out};
 use crate::place::{bearer as bearer_of, token_at};
 use crate::plain;
@@ -27,26 +27,15 @@ struct Stock<'a> {
 }
 
 pub fn in_text(out: &mut Out, file: &OsStr, labels: &[Vec<u8>], options: &Options) -> io::Result<Status> {
-    let Done { text, answer } = match Job::start(file, options.memory).wait(options.quiet) {
-        Ok(done) => done,
-        Err(failure) => return check::failed(out, file, &failure, options),
+    let opened = match open(out, file, options)? {
+        Ok(opened) => opened,
+        Err(status) => return Ok(status),
     };
-    let source = Source::of(file, &text);
-    match answer {
-        Answer::Refused(refusal) => check::refused(out, &source, refusal, options),
-        Answer::Read(streams) => {
-            count_errors(file, streams.diags.len() / 18, options);
-            all(out, &Stock { name: file, frames: &streams.frames, source: Some(&source) }, labels, options)
-        }
-    }
-}
-
-/// Errors of the text are not what was asked for; that there are some is said beside it.
-pub fn count_errors(file: &OsStr, errors: usize, options: &Options) {
-    if errors > 0 && options.format != Format::Json {
-        let name = plain::file_name(file);
-        complain(options, &format!("janorembe: {name}: {}; `check` shows what is wrong", check::many(errors, "error")));
-    }
+    let source = Source::of(file, &opened.text);
+    let stock = Stock { name: file, frames: &opened.streams.frames, source: Some(&source) };
+    let status = all(out, &stock, labels, options)?;
+    opened.aside(out, file, options)?;
+    Ok(status)
 }
 
 pub fn in_stream(out: &mut Out, file: &OsStr, labels: &[Vec<u8>], options: &Options) -> io::Result<Status> {
@@ -95,6 +84,7 @@ fn absent(out: &mut Out, stock: &Stock, label: &[u8], options: &Options) -> io::
         out.line(&json::absent(stock.name, label, &zeros, &near))?;
         return Ok(Status::Reported);
     }
+    out.flush()?;
     let joined = |labels: &[&[u8]]| labels.iter().map(|label| plain::token(label)).collect::<Vec<_>>().join(" ");
     let (name, shown) = (plain::file_name(stock.name), plain::token(label));
     complain(options, &format!("janorembe: {name}: no frame bears the label `{shown}` [number 11]"));

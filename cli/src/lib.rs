@@ -12,6 +12,7 @@ pub mod job;
 pub mod json;
 pub mod labels;
 pub mod lend;
+pub mod open;
 pub mod out;
 pub mod place;
 pub mod plain;
@@ -65,7 +66,8 @@ fn perform(out: &mut Out, order: &Order) -> io::Result<Status> {
         Command::Frame { file, labels, stream: true } => frame::in_stream(out, file, labels, options),
         Command::Labels { file, bytes } => labels::labels(out, file, *bytes, options),
         Command::Streams { file, frames, diags } => {
-            streams::streams(out, file, frames.as_ref(), diags.as_ref(), options)
+            let places = streams::Places { frames: frames.as_ref(), diags: diags.as_ref() };
+            streams::streams(out, file, places, options)
         }
         Command::Explain(topic) => explain::explain(out, *topic),
         Command::Help(command) => out.line(help::of(*command)).map(|()| Status::Clean),

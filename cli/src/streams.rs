@@ -2,11 +2,9 @@
 
 use crate::check;
 use crate::input::{is_standard, reason};
-use crate::job::{Done, Job};
-use crate::lend::Answer;
+use crate::open::open;
 use crate::out::Out;
 use crate::plain;
-use crate::source::Source;
 use crate::status::{Failure, Status};
 use crate::words::Options;
 use std::ffi::{OsStr, OsString};
@@ -22,29 +20,22 @@ struct Output {
     file: File,
 }
 
-pub fn streams(
-    out: &mut Out,
-    file: &OsStr,
-    frames_to: Option<&OsString>,
-    diags_to: Option<&OsString>,
-    options: &Options,
-) -> io::Result<Status> {
-    let Done { text, answer } = match Job::start(file, options.memory).wait(options.quiet) {
-        Ok(done) => done,
-        Err(failure) => return check::failed(out, file, &failure, options),
+/// Where both streams go; at least one of them is named.
+pub struct Places<'a> {
+    pub frames: Option<&'a OsString>,
+    pub diags: Option<&'a OsString>,
+}
+
+pub fn streams(out: &mut Out, file: &OsStr, places: Places, options: &Options) -> io::Result<Status> {
+    let opened = match open(out, file, options)? {
+        Ok(opened) => opened,
+        Err(status) => return Ok(status),
     };
-    let source = Source::of(file, &text);
-    let streams = match answer {
-        Answer::Refused(refusal) => return check::refused(out, &source, refusal, options),
-        Answer::Read(streams) => streams,
-    };
-    let looked = check::looked(&streams);
-    let outputs = [(frames_to, &streams.frames), (diags_to, &streams.diags)];
-    let named: Vec<(&OsStr, &[u8])> =
-        outputs.iter().filter_map(|(to, bytes)| Some((to.as_ref()?.as_os_str(), &bytes[..]))).collect();
-    let written = looked.and_then(|looked| write_all(file, &named).map(|()| looked));
-    match written {
-        Ok((diagnostics, counts)) => check::summary(out, &source, diagnostics.len(), &counts),
+    let frames = places.frames.map(|place| (place.as_os_str(), &opened.streams.frames[..]));
+    let diags = places.diags.map(|place| (place.as_os_str(), &opened.streams.diags[..]));
+    let outputs: Vec<(&OsStr, &[u8])> = frames.into_iter().chain(diags).collect();
+    match write_all(file, &outputs) {
+        Ok(()) => opened.summary(out, file),
         Err(failure) => check::failed(out, file, &failure, options),
     }
 }

@@ -198,21 +198,24 @@ fn color(words: &Apart) -> Result<Color, String> {
 /// The words after `janorembe`.
 pub fn read(words: Vec<OsString>) -> Result<Order, Usage> {
     let mut words = apart(words).map_err(|message| Usage { message, command: None })?;
-    if words.given("--version") {
-        let options = options(&words).map_err(|message| Usage { message, command: None })?;
-        return Ok(Order { command: Command::Version, options });
-    }
     let first = if words.rest.is_empty() { None } else { Some(words.rest.remove(0)) };
-    let name = match &first {
-        Some(word) => Some(named(word)?),
-        None => None,
+    let name = first.map(|word| named(&word)).transpose()?;
+    order(name, &words).map_err(|message| Usage { message, command: name })
+}
+
+/// Help and version are said whatever else is asked for, quiet or not.
+fn order(name: Option<&'static str>, words: &Apart) -> Result<Order, String> {
+    taken(words, name)?;
+    let mut options = options(words)?;
+    let command = if words.given("--version") {
+        Command::Version
+    } else if words.given("--help") || words.given("-h") {
+        Command::Help(name)
+    } else {
+        command(name, words)?
     };
-    let made = taken(&words, name).and_then(|()| options(&words)).and_then(|options| {
-        let help = words.given("--help") || words.given("-h");
-        let command = if help { Command::Help(name) } else { command(name, &words)? };
-        Ok(Order { command, options })
-    });
-    made.map_err(|message| Usage { message, command: name })
+    options.quiet &= !matches!(command, Command::Version | Command::Help(_));
+    Ok(Order { command, options })
 }
 
 /// The command that a word names; `help` is one of `janorembe help COMMAND`.

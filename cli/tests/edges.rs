@@ -157,6 +157,13 @@ fn file_names() {
     assert!(got.out.is_ascii());
 }
 
+/// Quotes and backslashes are legal in a symbol.
+#[test]
+fn json_strings() {
+    let got = ran(br#"a $a \" <b>&'{} $."#, &["check", "--json", "-"]);
+    assert!(got.out.contains(r#""token":"\\\"""#) && got.out.contains(r#""token":"<b>&'{}""#), "{}", got.out);
+}
+
 /// 417, 0417, 00417, 1e3 and -0 are five labels, never trimmed, padded or taken for one another.
 #[test]
 fn labels_are_bytes() {
