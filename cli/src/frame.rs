@@ -56,7 +56,11 @@ fn all(out: &mut Out, stock: &Stock, labels: &[Vec<u8>], options: &Options) -> i
         let status = match lend::look_up(stock.frames, label) {
             Ok(Found::At(at)) => found(out, stock, label, at, options)?,
             Ok(Found::Absent) => absent(out, stock, label, options)?,
-            Ok(Found::Malformed(at)) => return malformed(out, stock.name, at),
+            Ok(Found::Malformed(at)) if stock.source.is_none() => return malformed(out, stock.name, at),
+            Ok(Found::Malformed(at)) => {
+                let failure = Failure::fault(format!("look-up refuses the core's own stream at {at}"));
+                return check::failed(out, stock.name, &failure, options);
+            }
             Err(failure) => return check::failed(out, stock.name, &failure, options),
         };
         worst = worst.max(status);
