@@ -1,5 +1,6 @@
-/* The scope checker as a C library: link target/staticlib/libcapi.a, which `rt staticlib capi` writes (x86-64 Linux).
- * Both functions are total: any bytes and any lengths get an answer. They allocate nothing and keep nothing between
+/* The scope checker as a C library (x86-64 Linux). After `make install`, `pkg-config --cflags --libs janorembe` says how to build with it;
+ * without, link target/staticlib/libcapi.a, which `rt staticlib capi` writes. docs/FORMATS.md has every record of both streams to the byte.
+ * All functions are total: any bytes and any lengths get an answer. They allocate nothing and keep nothing between
  * calls, so threads may call them at the same time over buffers of their own. */
 #ifndef JANOREMBE_H
 #define JANOREMBE_H
@@ -11,7 +12,7 @@
 extern "C" {
 #endif
 
-/* Checks a text and builds the frames of its statements. Returns document 01's number:
+/* Measure and writer return a number; with it comes a place:
  *
  *   0  done; the place is 0
  *   1  text over 16,777,216 bytes; 0
@@ -21,33 +22,53 @@ extern "C" {
  *   5  a token that the grammar does not allow there; its offset
  *   6  the text ends in a statement or an open group; its length
  *   7  a frame with over 4,095 variables; the offset of its statement
- *   8  frame buffer too short; the bytes needed
- *   9  diagnostics buffer too short; the bytes needed
+ *   8  frame buffer too short; the bytes needed (writer only)
+ *   9  diagnostics buffer too short; the bytes needed (writer only)
+ *
+ * and write eight numbers into answer:
+ *
+ *   answer[0]  the place
+ *   answer[1]  0
+ *   answer[2]  0
+ *   answer[3]  bytes of the frame stream
+ *   answer[4]  bytes of the diagnostics stream
+ *   answer[5]  0
+ *   answer[6]  number of frames: the records of the frame stream
+ *   answer[7]  0
+ *
+ * If the number is not 0, all but the place are 0.
  *
  * text, text_length      the bytes to check; only read
  * work, work_length      32-bit words to work in, and how many (words, not bytes). What they hold before means nothing;
  *                        afterwards they all are 0, whatever the number
- * frames, frames_length  if the number is 0, its first answer[1] bytes are the frame stream; nothing else of it is changed
- * diags, diags_length    if the number is 0, its first answer[2] bytes are the diagnostics stream; nothing else is changed
- * answer                 takes three numbers: the place, the used bytes of frames and the used bytes of diags, both of these
- *                        0 if the number is not
  *
- * The lengths that a text needs can be asked for: call with lengths 0 and lend what the places of 2, 8 and 9 say. The
- * buffers and answer must not overlap; work is aligned to 4 bytes and answer to 8, as C's own arrays are. No pointer may be null:
- * with a length of 0 any other will do. */
-uint32_t janorembe_check(const uint8_t *text, size_t text_length,
+ * The buffers and answer must not overlap; work is aligned to 4 bytes and answer to 8, as C's own arrays are. No pointer may
+ * be null: with a length of 0 any other will do. */
+
+/* Measures a text: the bytes that both streams need, and the number of frames. The words that it needs can be asked for: with
+ * a work_length of 0 the number is 2 (or 1), and the place says them. */
+uint32_t janorembe_measure(const uint8_t *text, size_t text_length,
+                           uint32_t *work, size_t work_length,
+                           uint64_t answer[8]);
+
+/* Checks a text and writes the frames of its statements and the diagnostics. It repeats every check, so a text need not have
+ * been measured; over buffers as long as the measure says the number is the measure's.
+ *
+ * frames, frames_length  if the number is 0, its first answer[3] bytes are the frame stream; nothing else of it is changed
+ * diags, diags_length    if the number is 0, its first answer[4] bytes are the diagnostics stream; nothing else is changed */
+uint32_t janorembe_write(const uint8_t *text, size_t text_length,
                          uint32_t *work, size_t work_length,
                          uint8_t *frames, size_t frames_length,
                          uint8_t *diags, size_t diags_length,
-                         uint64_t answer[3]);
+                         uint64_t answer[8]);
 
-/* Looks a label up in a frame stream. The whole stream is walked first. Returns document 01's number:
+/* Looks a label up in a frame stream. The whole stream is walked first. Returns a number:
  *
  *   0   found; the place is the offset of the first record with this label
  *  10   a record that is not well framed; the offset of the first one
  *  11   no such label; 0
  *
- * frames, frames_length  a frame stream: the used bytes that the check wrote, not the whole buffer; only read
+ * frames, frames_length  a frame stream: the used bytes that the writer wrote, not the whole buffer; only read
  * label, label_length    the label, compared byte for byte; only read
  * place                  takes the place
  *

@@ -108,6 +108,9 @@ pub fn looked(streams: &Streams) -> Result<(Vec<Diagnostic>, Counts), Failure> {
         let (_, frame) = frame.map_err(|at| Failure::fault(format!("the frame record at {at} does not decode")))?;
         counts.iter_mut().filter(|(keyword, _)| *keyword == frame.keyword()).for_each(|(_, count)| *count += 1);
     }
+    if counts.iter().map(|(_, count)| *count as u64).sum::<u64>() != streams.count {
+        return Err(Failure::fault("the frames that the core counted are not those in its stream"));
+    }
     let diagnostics = decode::diagnostics(&streams.diags);
     Ok((diagnostics.ok_or_else(|| Failure::fault("a diagnostics record does not decode"))?, counts))
 }

@@ -1,7 +1,7 @@
 //! Lends memory to the core and calls it. This module alone moves when the functions of the archive do.
 
 use crate::status::Failure;
-use janorembe::{check, lookup};
+use janorembe::{lookup, measure, write};
 
 /// The longest text that the core takes.
 pub const MOST_BYTES: u64 = 16_777_216;
@@ -11,10 +11,11 @@ const WORD: u64 = 4;
 const DIAGNOSTICS_A_TOKEN: u64 = 36;
 const WORDS_A_TOKEN: u64 = 16;
 
-/// Both streams of a text that was read.
+/// Both streams of a text that was read, and how many frames it has.
 pub struct Streams {
     pub frames: Vec<u8>,
     pub diags: Vec<u8>,
+    pub count: u64,
 }
 
 /// The number and place of a refusal.
@@ -45,7 +46,7 @@ struct Lengths {
 
 /// The words of work area that a text needs, at the cost of counting its tokens; or the refusal that comes before.
 fn words_needed(text: &[u8]) -> Result<u64, Refusal> {
-    let answer = check(text, &mut [], &mut [], &mut []);
+    let answer = measure(text, &mut []);
     match answer.number {
         2 => Ok(answer.place),
         number => Err(Refusal { number, place: answer.place as usize }),
@@ -57,22 +58,10 @@ fn guess(text: &[u8], words: u64) -> Lengths {
     Lengths { frames: 2 * text.len() as u64, diags: words / WORDS_A_TOKEN * DIAGNOSTICS_A_TOKEN }
 }
 
-/// Just the lengths that a text needs: the places of numbers 8 and 9. A text that is refused needs none. If the frames alone are
-/// more than is allowed, the diagnostics are not asked for.
-fn measured(text: &[u8], work: &mut [u32], memory: u64) -> Lengths {
-    let frames = check(text, work, &mut [], &mut []);
-    let mut lengths = Lengths { frames: 0, diags: 0 };
-    if frames.number == 8 {
-        lengths.frames = frames.place;
-    }
-    if allow(lengths.frames, memory).is_err() {
-        return lengths;
-    }
-    let diags = check(text, work, &mut zeroed(lengths.frames), &mut []);
-    if diags.number == 9 {
-        lengths.diags = diags.place;
-    }
-    lengths
+/// Just the lengths that a text needs. A text that is refused needs none.
+fn measured(text: &[u8], work: &mut [u32]) -> Lengths {
+    let needed = measure(text, work);
+    Lengths { frames: needed.frames, diags: needed.diags }
 }
 
 fn zeroed(length: u64) -> Vec<u8> {
@@ -109,16 +98,16 @@ pub fn streams(text: &[u8], memory: u64) -> Result<Answer, Failure> {
     let mut lengths = guess(text, words);
     for _ in 0..3 {
         if allow(words * WORD + lengths.frames + lengths.diags, memory).is_err() {
-            lengths = measured(text, &mut work, memory);
+            lengths = measured(text, &mut work);
             allow(words * WORD + lengths.frames + lengths.diags, memory)?;
         }
         let (mut frames, mut diags) = (zeroed(lengths.frames), zeroed(lengths.diags));
-        let answer = check(text, &mut work, &mut frames, &mut diags);
+        let answer = write(text, &mut work, &mut frames, &mut diags);
         match answer.number {
             0 => {
                 frames.truncate(answer.frames as usize);
                 diags.truncate(answer.diags as usize);
-                return Ok(Answer::Read(Streams { frames, diags }));
+                return Ok(Answer::Read(Streams { frames, diags, count: answer.count }));
             }
             8 => lengths.frames = answer.place,
             9 => lengths.diags = answer.place,

@@ -1,15 +1,23 @@
-//! A safe wrapper over the two operations of the static library.
+//! A safe wrapper over the operations of the static library.
 //!
 //! The library promises, for every text and every length of the lent buffers: the answer is document 01's; a refusal
 //! leaves both output buffers unchanged; the work area holds only zeros afterwards.
 
-/// What the check answers: document 01's number and place, and the used lengths of the two streams.
+pub mod cases;
+
+/// What measure and writer answer: document 01's number and place, the bytes of the streams and the number of frames.
+/// Segment, line and bytes of verdicts are 0 as long as nothing speaks of them, and so is the word that is spare.
 #[derive(Clone, Copy, Debug, PartialEq, Eq)]
 pub struct Answer {
     pub number: u32,
     pub place: u64,
+    pub segment: u64,
+    pub line: u64,
     pub frames: u64,
     pub diags: u64,
+    pub verdicts: u64,
+    pub count: u64,
+    pub spare: u64,
 }
 
 /// What look-up answers: document 01's number and place.
@@ -19,15 +27,23 @@ pub struct Found {
     pub place: u64,
 }
 
-/// The two streams of a text that is not refused.
+/// The two streams of a text that is not refused, and the number of frames.
 #[derive(Clone, Debug, PartialEq, Eq)]
 pub struct Streams {
     pub frames: Vec<u8>,
     pub diags: Vec<u8>,
+    pub count: u64,
 }
 
 extern "C" {
-    fn janorembe_check(
+    fn janorembe_measure(
+        text: *const u8,
+        text_length: usize,
+        work: *mut u32,
+        work_length: usize,
+        answer: *mut u64,
+    ) -> u32;
+    fn janorembe_write(
         text: *const u8,
         text_length: usize,
         work: *mut u32,
@@ -47,13 +63,28 @@ extern "C" {
     ) -> u32;
 }
 
+fn answered(number: u32, words: [u64; 8]) -> Answer {
+    let [place, segment, line, frames, diags, verdicts, count, spare] = words;
+    Answer { number, place, segment, line, frames, diags, verdicts, count, spare }
+}
+
+/// Measures a text: the bytes that both streams need, and the number of frames. Never number 8 or 9.
+pub fn measure(text: &[u8], work: &mut [u32]) -> Answer {
+    let mut words = [u64::MAX; 8];
+    // SAFETY: the library reads `text`, writes `work` within its length, and keeps no pointer; the slices do not overlap,
+    // since one of them is borrowed for writing; `words` has the eight words it writes.
+    let number =
+        unsafe { janorembe_measure(text.as_ptr(), text.len(), work.as_mut_ptr(), work.len(), words.as_mut_ptr()) };
+    answered(number, words)
+}
+
 /// Checks a text: frames and diagnostics go to the fronts of their buffers if the number is 0.
-pub fn check(text: &[u8], work: &mut [u32], frames: &mut [u8], diags: &mut [u8]) -> Answer {
-    let mut answer = [0u64; 3];
+pub fn write(text: &[u8], work: &mut [u32], frames: &mut [u8], diags: &mut [u8]) -> Answer {
+    let mut words = [u64::MAX; 8];
     // SAFETY: the library reads `text`, writes the other slices within their lengths, and keeps no pointer; the
-    // slices do not overlap, since three of them are borrowed for writing; `answer` has the three words it writes.
+    // slices do not overlap, since three of them are borrowed for writing; `words` has the eight words it writes.
     let number = unsafe {
-        janorembe_check(
+        janorembe_write(
             text.as_ptr(),
             text.len(),
             work.as_mut_ptr(),
@@ -62,33 +93,37 @@ pub fn check(text: &[u8], work: &mut [u32], frames: &mut [u8], diags: &mut [u8])
             frames.len(),
             diags.as_mut_ptr(),
             diags.len(),
-            answer.as_mut_ptr(),
+            words.as_mut_ptr(),
         )
     };
-    Answer { number, place: answer[0], frames: answer[1], diags: answer[2] }
+    answered(number, words)
 }
 
 /// The first record of a frame stream with this label.
 pub fn lookup(frames: &[u8], label: &[u8]) -> Found {
-    let mut place = 0u64;
+    let mut place = u64::MAX;
     // SAFETY: the library reads the two slices within their lengths, writes `place`, and keeps no pointer.
     let number = unsafe { janorembe_lookup(frames.as_ptr(), frames.len(), label.as_ptr(), label.len(), &mut place) };
     Found { number, place }
 }
 
-/// Checks a text over buffers of its own, as long as the places of numbers 2, 8 and 9 say; a refusal for any other reason
-/// is given back.
+/// The words of work area that a text needs: 16 for each token, and 16 more.
+pub fn words(text: &[u8]) -> usize {
+    let token = |part: &&[u8]| !part.is_empty();
+    16 * (text.split(|b| matches!(b, 9 | 10 | 12 | 13 | 32)).filter(token).count() + 1)
+}
+
+/// Measures a text and checks it over buffers of its own, of just the lengths measured; a refusal is given back.
 pub fn streams(text: &[u8]) -> Result<Streams, Answer> {
-    let (mut work, mut frames, mut diags) = (Vec::new(), Vec::new(), Vec::new());
-    loop {
-        let answer = check(text, &mut work, &mut frames, &mut diags);
-        let needed = answer.place as usize;
-        match answer.number {
-            0 => return Ok(Streams { frames, diags }),
-            2 => work = vec![0; needed],
-            8 => frames = vec![0; needed],
-            9 => diags = vec![0; needed],
-            _ => return Err(answer),
-        }
+    let mut work = vec![0; words(text)];
+    let needed = measure(text, &mut work);
+    if needed.number != 0 {
+        return Err(needed);
     }
+    let (mut frames, mut diags) = (vec![0; needed.frames as usize], vec![0; needed.diags as usize]);
+    let answer = write(text, &mut work, &mut frames, &mut diags);
+    if answer.number != 0 {
+        return Err(answer);
+    }
+    Ok(Streams { frames, diags, count: answer.count })
 }

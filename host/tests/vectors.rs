@@ -3,6 +3,7 @@
 mod common;
 
 use common::{all_vectors, refusal, run, settle};
+use janorembe::cases::cases;
 
 #[test]
 fn every_line() {
@@ -52,5 +53,16 @@ fn buffers_one_short() {
             assert_eq!(refusal(&v.name, &v.text, words, f, d - 1), (9, d as u64), "{}", v.name);
             assert_eq!(refusal(&v.name, &v.text, words, f + 1, 0), (9, d as u64), "{}", v.name);
         }
+    }
+}
+
+/// Every case of the file of the requests that have landed.
+#[test]
+fn every_case_of_the_requests() {
+    let path = concat!(env!("CARGO_MANIFEST_DIR"), "/../vectors/requests.txt");
+    let all = cases(&std::fs::read_to_string(path).expect("the cases")).expect("cases");
+    assert!(!all.is_empty());
+    for case in all {
+        assert_eq!(case.agrees(), Ok(true), "{}", case.name);
     }
 }

@@ -1,7 +1,16 @@
 -- Uniqueness, proved: both results are the same function of the inputs, field by field.
 -- Assumes nothing.
 use mathlib.Core.Path.{sym, _∙_}
-use Rattle.capi.specs.Unique.{Unique, UniqueLook}
+use Rattle.capi.specs.Unique.{UniqueMeasure, Unique, UniqueLook}
+
+pub unique-measure : UniqueMeasure
+unique-measure t w r s a b =
+    λ i.
+    record {
+      number = (a .told ∙ sym (b .told)) i;
+      answer = (a .answer ∙ sym (b .answer)) i;
+      work = (a .work ∙ sym (b .work)) i;
+    }
 
 pub unique : Unique
 unique t w f d r s a b =

@@ -3,9 +3,22 @@
 use mathlib.Core.Path.{_≡_}
 use mathlib.Core.List.{List}
 use Prim.Native.Nat.{ℕ}
-use Rattle.capi.specs.Promise.{Checked, Looked}
+use Rattle.capi.specs.Promise.{Gauged, Written, Looked}
 
--- ---- the operation, for the text t with work area w, frame buffer f and diagnostics buffer d at entry
+-- ---- the measure, for the text t with work area w at entry
+pub record Gauge : Type 0 where
+  pub number : ℕ
+  pub answer : List ℕ
+  pub work : List ℕ
+
+abbrev pub UniqueMeasure : Type 0
+UniqueMeasure =
+    (t w : List ℕ) (r s : Gauge)
+    → Gauged t w (r .work) (r .answer) (r .number)
+    → Gauged t w (s .work) (s .answer) (s .number)
+    → r ≡ s
+
+-- ---- the writer, for the text t with work area w, frame buffer f and diagnostics buffer d at entry
 pub record Told : Type 0 where
   pub number : ℕ
   pub answer : List ℕ
@@ -14,7 +27,7 @@ pub record Told : Type 0 where
   pub work : List ℕ
 
 abbrev pub Allowed : List ℕ → List ℕ → List ℕ → List ℕ → Told → Type 0
-Allowed t w f d r = Checked t w (r .work) f (r .frames) d (r .diags) (r .answer) (r .number)
+Allowed t w f d r = Written t w (r .work) f (r .frames) d (r .diags) (r .answer) (r .number)
 
 abbrev pub Unique : Type 0
 Unique = (t w f d : List ℕ) (r s : Told) → Allowed t w f d r → Allowed t w f d s → r ≡ s

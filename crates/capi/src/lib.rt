@@ -1,33 +1,35 @@
-// The operation and look-up for programs in other languages: document 01's numbers in place of enums.
-// `include/janorembe.h` declares both; what they promise is in `specs/Promise.antt`. Nothing is asked of a caller.
-use crate::numbers::answer_number;
-use crate::numbers::answer_place;
-use crate::numbers::diags_length;
-use crate::numbers::frames_length;
+// Measure, writer and look-up for programs in other languages: document 01's numbers in place of enums.
+// `include/janorembe.h` declares them; what they promise is in `specs/Promise.antt`. Nothing is asked of a caller.
 use crate::numbers::lookup_number;
 use crate::numbers::lookup_place;
-ghost use Rattle.capi.specs.Promise.{Checked, Looked};
+use crate::numbers::tell_measured;
+use crate::numbers::tell_written;
+ghost use Rattle.capi.specs.Promise.{Gauged, Written, Looked};
 
 pub mod numbers;
 
-/// The number of `catalogue::check`; its place and both used lengths go into `answer`.
+/// The number of `catalogue::measure`; place, lengths and number of frames go into `answer`.
 #[no_mangle]
-pub extern "C" fn janorembe_check(
+pub extern "C" fn janorembe_measure(text: &[u8], work: &mut [u32], answer: &mut [u64; 8]) -> u32
+    ensures { λ r. ⌜ Gauged (now (text .entry)) (now (work .entry)) (now (work .exit)) (now (answer .exit)) r ⌝ }
+{
+    let measured = catalogue::measure(text, work);
+    tell_measured(measured, answer)
+}
+
+/// The number of `catalogue::write`; place, used lengths and number of frames go into `answer`.
+#[no_mangle]
+pub extern "C" fn janorembe_write(
     text: &[u8],
     work: &mut [u32],
     frames: &mut [u8],
     diags: &mut [u8],
-    answer: &mut [u64; 3],
+    answer: &mut [u64; 8],
 ) -> u32
-    ensures { λ r. ⌜ Checked (now (text .entry)) (now (work .entry)) (now (work .exit)) (now (frames .entry)) (now (frames .exit)) (now (diags .entry)) (now (diags .exit)) (now (answer .exit)) r ⌝ }
+    ensures { λ r. ⌜ Written (now (text .entry)) (now (work .entry)) (now (work .exit)) (now (frames .entry)) (now (frames .exit)) (now (diags .entry)) (now (diags .exit)) (now (answer .exit)) r ⌝ }
 {
-    let given = catalogue::check(text, work, frames, diags);
-    *answer = [
-        answer_place(given),
-        frames_length(given),
-        diags_length(given),
-    ];
-    answer_number(given)
+    let written = catalogue::write(text, work, frames, diags);
+    tell_written(written, answer)
 }
 
 /// The number of `catalogue::lookup`; its place goes into `place`.

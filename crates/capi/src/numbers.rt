@@ -1,11 +1,13 @@
-// The number, place and used lengths of an answer, as document 01 has them for each of its cases.
+// The number and the words of an answer, as document 01 has them for each of its cases.
 // `paper`'s `specs/Answer.antt` and `specs/Lookup.antt` give them as definitions.
 use paper::Answer;
 use paper::Found;
+use paper::Measured;
 use paper::Refusal;
 ghost use mathlib.Core.Path.{_≡_};
-ghost use Rattle.paper.specs.Answer.{refusal-number, refusal-place, number, place, frames-used, diags-used};
+ghost use Rattle.paper.specs.Answer.{refusal-number, refusal-place, measured-number, number};
 ghost use Rattle.paper.specs.Lookup.{found-number, found-place};
+ghost use Rattle.capi.specs.Promise.{eight, measured-words, written-words};
 
 /// Numbers 1 to 9.
 fn refusal_number(refusal: Refusal) -> u32
@@ -41,39 +43,37 @@ fn refusal_place(refusal: Refusal) -> u64
     }
 }
 
-pub fn answer_number(answer: Answer) -> u32
-    ensures { λ r. ⌜ r ≡ number answer ⌝ }
+/// What comes of a refusal: its number; its place is the first word, and the others are 0.
+fn tell_refusal(refusal: Refusal, answer: &mut [u64; 8]) -> u32
+    ensures { λ r. ⌜ (r ≡ refusal-number refusal) × (now (answer .exit) ≡ eight (refusal-place refusal) 0 0 0) ⌝ }
 {
-    match answer {
-        Answer::Done(_, _) => 0,
-        Answer::Refused(refusal) => refusal_number(refusal),
+    *answer = [refusal_place(refusal), 0, 0, 0, 0, 0, 0, 0];
+    refusal_number(refusal)
+}
+
+/// The number of what the measure answers; its words go into `answer`.
+pub fn tell_measured(measured: Measured, answer: &mut [u64; 8]) -> u32
+    ensures { λ r. ⌜ (r ≡ measured-number measured) × (now (answer .exit) ≡ measured-words measured) ⌝ }
+{
+    match measured {
+        Measured::Needs(frames, diags, count) => {
+            *answer = [0, 0, 0, frames, diags, 0, count, 0];
+            0
+        }
+        Measured::Refused(refusal) => tell_refusal(refusal, answer),
     }
 }
 
-pub fn answer_place(answer: Answer) -> u64
-    ensures { λ r. ⌜ r ≡ place answer ⌝ }
+/// The number of what the writer answers; its words go into `answer`.
+pub fn tell_written(written: Answer, answer: &mut [u64; 8]) -> u32
+    ensures { λ r. ⌜ (r ≡ number written) × (now (answer .exit) ≡ written-words written) ⌝ }
 {
-    match answer {
-        Answer::Done(_, _) => 0,
-        Answer::Refused(refusal) => refusal_place(refusal),
-    }
-}
-
-pub fn frames_length(answer: Answer) -> u64
-    ensures { λ r. ⌜ r ≡ frames-used answer ⌝ }
-{
-    match answer {
-        Answer::Done(frames, _) => frames,
-        Answer::Refused(_) => 0,
-    }
-}
-
-pub fn diags_length(answer: Answer) -> u64
-    ensures { λ r. ⌜ r ≡ diags-used answer ⌝ }
-{
-    match answer {
-        Answer::Done(_, diags) => diags,
-        Answer::Refused(_) => 0,
+    match written {
+        Answer::Done(frames_used, diags_used, count) => {
+            *answer = [0, 0, 0, frames_used, diags_used, 0, count, 0];
+            0
+        }
+        Answer::Refused(refusal) => tell_refusal(refusal, answer),
     }
 }
 

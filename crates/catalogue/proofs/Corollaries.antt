@@ -3,21 +3,30 @@
 use mathlib.Core.Path.{_≡_, sym, ap, _∙_}
 use mathlib.Core.List.{List, [], _∷_, map}
 use Prim.Native.Nat.{ℕ}
-use Rattle.paper.specs.Answer.{number, answer-of, answer, frames-of, diags-of, frames-exit, diags-exit}
+use lib.ListN.{length}
+use Rattle.paper.specs.Answer.{number, measure, answer-of, answer, frames-of, diags-of, frames-exit, diags-exit}
 use Rattle.paper.specs.declared.Answer.{Answer}
 use Rattle.paper.proofs.Alls.{All, all-none, all-more}
 use Rattle.paper.proofs.Table.{lent, Case, _gives_, expected, operation, computed}
 use Rattle.paper.proofs.Bench as bench
 use Rattle.paper.proofs.Slips as slips
 use Rattle.paper.proofs.Readings as readings
+use Rattle.paper.proofs.Measures as measures
 use Rattle.theorems.specs.Unique.{Allowed}
-use Rattle.theorems.proofs.Unique.{unique}
+use Rattle.theorems.proofs.Unique.{unique-measure, unique}
+use Rattle.theorems.proofs.Measured.{measured-fits}
 use Rattle.theorems.proofs.Demand3.{demand3}
-use Rattle.catalogue.specs.Promise.{Checks}
-use Rattle.catalogue.specs.Corollaries.{ended, OneResult, OneFound, Holds, TablesHold, GroupTakenOut}
+use Rattle.catalogue.specs.Promise.{Measures, Writes}
+use Rattle.catalogue.specs.Corollaries.{ended, OneMeasure, OneResult, OneFound, WritesAsMeasured, Holds, TablesHold, HoldsMeasure, MeasureTablesHold, GroupTakenOut}
 
 -- ---- one result
-allowed : {t w w′ f f′ d d′ : List ℕ} {r : Answer} → Checks t w w′ f f′ d d′ r → Allowed t w f d (ended r w′ f′ d′)
+pub one-measure : OneMeasure
+one-measure t w w₁ w₂ r s a b =
+    unique-measure t w (record { measured = r; work = w₁ }) (record { measured = s; work = w₂ })
+    (record { measures = a .measured; work-holds = a .work })
+    (record { measures = b .measured; work-holds = b .work })
+
+allowed : {t w w′ f f′ d d′ : List ℕ} {r : Answer} → Writes t w w′ f f′ d d′ r → Allowed t w f d (ended r w′ f′ d′)
 allowed c = record { answers = c .answer; frames-hold = c .frames; diags-hold = c .diags; work-holds = c .work }
 
 pub one-result : OneResult
@@ -25,6 +34,16 @@ one-result t w f d w₁ f₁ d₁ w₂ f₂ d₂ r s a b = unique t w f d (ended
 
 pub one-found : OneFound
 one-found f l r s a b = a ∙ sym b
+
+-- ---- the writer does as was measured
+pub writes-as-measured : WritesAsMeasured
+writes-as-measured t v v′ w w′ f f′ d d′ m r a b e =
+    let z = measured-fits t (length w) (length f) (length d) in
+    let i : measure t (length w) ≡ m = ap (measure t) e ∙ sym (a .measured) in
+    record {
+      done = λ k x y. b .answer ∙ z .done (i ∙ k) x y;
+      refused = λ k. b .answer ∙ z .refused (i ∙ k);
+    }
 
 -- ---- the tables
 case-holds : (c : Case) → computed c ≡ expected c → Holds c
@@ -46,6 +65,20 @@ slips-hold = tables-hold slips.cases slips.slips
 
 pub readings-hold : All Holds readings.cases
 readings-hold = tables-hold readings.cases readings.readings
+
+measure-holds : (c : measures.Case) → measures.computed c ≡ measures.expected c → HoldsMeasure c
+unfolding measures.measurement
+measure-holds (measures.measured-in t w x) e w′ m c = rw (c .measured, c .work) e
+
+pub measure-tables-hold : MeasureTablesHold
+measure-tables-hold [] e = all-none
+measure-tables-hold (c ∷ l) e =
+    let a : measures.computed c ≡ measures.expected c = cc in
+    let b : map measures.computed l ≡ map measures.expected l = cc in
+    all-more (measure-holds c a) (measure-tables-hold l b)
+
+pub measures-hold : All HoldsMeasure measures.cases
+measures-hold = measure-tables-hold measures.cases measures.measures
 
 -- ---- demand 3
 pub group-taken-out : GroupTakenOut

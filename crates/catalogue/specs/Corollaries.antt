@@ -1,37 +1,62 @@
--- What follows from the promises: one result for each input, the tables of `paper`, and demand 3, of the operation itself.
+-- What follows from the promises: one result for each input, a writer that does as was measured, the tables of `paper`, and
+-- demand 3, of the operations themselves.
 -- `w`, `f` and `d` are work area, frame and diagnostics buffer at entry, with a mark at exit.
 use mathlib.Core.Path.{_≡_}
 use mathlib.Core.List.{List, map}
-use Prim.Native.Nat.{ℕ}
+use Prim.Native.Nat.{ℕ, _≤_}
 use lib.ListN.{length}
-use Rattle.paper.specs.Answer.{Streams, number, place, frames-used, diags-used, laid}
+use Rattle.paper.specs.Answer.{Streams, measured-number, measured-place, frames-needed, diags-needed, measured-count, number, place, frames-used, diags-used, laid}
+use Rattle.paper.specs.declared.Refusal.{Refusal}
+use Rattle.paper.specs.declared.Measured.{Measured}
+use Rattle.paper.specs.declared.Measured.the-variants as lengths
 use Rattle.paper.specs.declared.Answer.{Answer}
-use Rattle.paper.specs.declared.Answer.the-variants.{Done}
+use Rattle.paper.specs.declared.Answer.the-variants.{Done, Refused}
 use Rattle.paper.specs.declared.Found.{Found}
 use Rattle.paper.proofs.Alls.{All}
 use Rattle.paper.proofs.Table.{lent, Result, result, Case, _gives_, expected, computed}
+use Rattle.paper.proofs.Measures as measures
 use Rattle.theorems.specs.Groups.{Group, statements, blanked, Apart}
-use Rattle.theorems.specs.TakenOut.{taken-out}
+use Rattle.theorems.specs.TakenOut.{taken-out, records-in}
 use Rattle.theorems.specs.Unique as unique
-use Rattle.catalogue.specs.Promise.{Checks, Looks}
+use Rattle.catalogue.specs.Promise.{Measures, Writes, Looks}
 
 -- ---- two runs on the same inputs end alike
+abbrev pub OneMeasure : Type 0
+OneMeasure =
+    (t w w₁ w₂ : List ℕ) (r s : Measured)
+    → Measures t w w₁ r
+    → Measures t w w₂ s
+    → _≡_ {A = unique.Measurement} (record { measured = r; work = w₁ }) (record { measured = s; work = w₂ })
+
 abbrev pub ended : Answer → List ℕ → List ℕ → List ℕ → unique.Result
 ended r w f d = record { answer = r; frames = f; diags = d; work = w }
 
 abbrev pub OneResult : Type 0
 OneResult =
     (t w f d w₁ f₁ d₁ w₂ f₂ d₂ : List ℕ) (r s : Answer)
-    → Checks t w w₁ f f₁ d d₁ r
-    → Checks t w w₂ f f₂ d d₂ s
+    → Writes t w w₁ f f₁ d d₁ r
+    → Writes t w w₂ f f₂ d d₂ s
     → ended r w₁ f₁ d₁ ≡ ended s w₂ f₂ d₂
 
 abbrev pub OneFound : Type 0
 OneFound = (f l : List ℕ) (r s : Found) → Looks f l r → Looks f l s → r ≡ s
 
+-- ---- a run of the measure, and a run of the writer on the same text with a work area of the same length
+pub record AsMeasured (f d : List ℕ) (m : Measured) (r : Answer) : Type 0 where
+  pub done : {x y n : ℕ} → m ≡ lengths.Needs x y n → x ≤ length f → y ≤ length d → r ≡ Done x y n
+  pub refused : {x : Refusal} → m ≡ lengths.Refused x → r ≡ Refused x
+
+abbrev pub WritesAsMeasured : Type 0
+WritesAsMeasured =
+    (t v v′ w w′ f f′ d d′ : List ℕ) (m : Measured) (r : Answer)
+    → Measures t v v′ m
+    → Writes t w w′ f f′ d d′ r
+    → length w ≡ length v
+    → AsMeasured f d m r
+
 -- ---- a table that is proved of the definitions holds of every run on its texts and buffers
 abbrev pub Runs : Case → List ℕ → List ℕ → List ℕ → Answer → Type 0
-Runs (lent t w f d gives x) w′ f′ d′ r = Checks t w w′ f f′ d d′ r
+Runs (lent t w f d gives x) w′ f′ d′ r = Writes t w w′ f f′ d d′ r
 
 abbrev pub Holds : Case → Type 0
 Holds c =
@@ -41,21 +66,32 @@ Holds c =
 abbrev pub TablesHold : Type 0
 TablesHold = (l : List Case) → map computed l ≡ map expected l → All Holds l
 
+abbrev pub RunsMeasure : measures.Case → List ℕ → Measured → Type 0
+RunsMeasure (measures.measured-in t w x) w′ m = Measures t w w′ m
+
+abbrev pub HoldsMeasure : measures.Case → Type 0
+HoldsMeasure c =
+    (w′ : List ℕ) (m : Measured) → RunsMeasure c w′ m
+    → measures.sizes (measured-number m) (measured-place m) (frames-needed m) (diags-needed m) (measured-count m) w′ ≡ measures.expected c
+
+abbrev pub MeasureTablesHold : Type 0
+MeasureTablesHold = (l : List measures.Case) → map measures.computed l ≡ map measures.expected l → All HoldsMeasure l
+
 -- ---- demand 3: two runs, on a text and on the text with a group blanked
 pub record Without (f f₁ f₂ d d₁ d₂ : List ℕ) (p q : ℕ) (r s : Answer) : Type 0 where
   pub streams : Streams
-  pub was : r ≡ Done (length (streams .frames)) (length (streams .diags))
+  pub was : r ≡ Done (length (streams .frames)) (length (streams .diags)) (streams .count)
   pub frames-were : f₁ ≡ laid f 0 (streams .frames)
   pub diags-were : d₁ ≡ laid d 0 (streams .diags)
-  pub is : s ≡ Done (length (taken-out p q (streams .frames))) (length (taken-out p q (streams .diags)))
+  pub is : s ≡ Done (length (taken-out p q (streams .frames))) (length (taken-out p q (streams .diags))) (records-in (taken-out p q (streams .frames)))
   pub frames-are : f₂ ≡ laid f 0 (taken-out p q (streams .frames))
   pub diags-are : d₂ ≡ laid d 0 (taken-out p q (streams .diags))
 
 abbrev pub GroupTakenOut : Type 0
 GroupTakenOut =
     (t w f d w₁ f₁ d₁ w₂ f₂ d₂ : List ℕ) (r s : Answer) (p q : ℕ)
-    → Checks t w w₁ f f₁ d d₁ r
-    → Checks (blanked t p q) w w₂ f f₂ d d₂ s
+    → Writes t w w₁ f f₁ d d₁ r
+    → Writes (blanked t p q) w w₂ f f₂ d d₂ s
     → number r ≡ 0
     → (g : Group t p q)
     → Apart (statements g) p q

@@ -1,16 +1,34 @@
-// The operation that the firm calls, and look-up by label: for any bytes and any lent buffers, nothing is asked.
+// The operations that the firm calls: measure, writer, and look-up by label. For any bytes and any lent buffers; nothing is asked.
 // What they promise is said over the definitions of `paper`, in `specs/Promise.antt`.
 use crate::streams::answer_read;
+use crate::streams::measure_read;
 use paper::Answer;
 use paper::Found;
+use paper::Measured;
 use paper::Reading;
-ghost use Rattle.catalogue.specs.Promise.{Checks, Looks};
+ghost use Rattle.catalogue.specs.Promise.{Measures, Writes, Looks};
 
 pub mod streams;
 
-/// Reads the text, checks and frames it. On refusal both output buffers are unchanged; the work area is zeros at exit.
-pub fn check(text: &[u8], work: &mut [u32], frames: &mut [u8], diags: &mut [u8]) -> Answer
-    ensures { λ r. ⌜ Checks (now (text .entry)) (now (work .entry)) (now (work .exit)) (now (frames .entry)) (now (frames .exit)) (now (diags .entry)) (now (diags .exit)) r ⌝ }
+/// Reads and checks the text: the bytes of both streams and the number of frames. The work area is zeros at exit.
+pub fn measure(text: &[u8], work: &mut [u32]) -> Measured
+    ensures { λ r. ⌜ Measures (now (text .entry)) (now (work .entry)) (now (work .exit)) r ⌝ }
+{
+    match reader::read(text, work) {
+        Reading::Unread(refusal) => Measured::Refused(refusal),
+        Reading::Read(rows, _) => {
+            let needs = measure_read(text, work, rows);
+            let words = work.len();
+            area::clear_part(work, 0, words);
+            needs
+        }
+    }
+}
+
+/// Reads the text, checks and frames it, whether it was measured or not. On refusal both output buffers are unchanged;
+/// the work area is zeros at exit.
+pub fn write(text: &[u8], work: &mut [u32], frames: &mut [u8], diags: &mut [u8]) -> Answer
+    ensures { λ r. ⌜ Writes (now (text .entry)) (now (work .entry)) (now (work .exit)) (now (frames .entry)) (now (frames .exit)) (now (diags .entry)) (now (diags .exit)) r ⌝ }
 {
     match reader::read(text, work) {
         Reading::Unread(refusal) => Answer::Refused(refusal),

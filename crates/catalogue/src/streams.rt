@@ -1,14 +1,38 @@
-// A text that is read: both streams are measured, and written only if both fit.
+// A text that is read: both streams are measured by a fold that writes nothing, and written only if both fit.
 // Numbers 7, 8 and 9, in this order.
 use fold::all::Folded;
 use fold::all::fold_all;
 use fold::start::start;
 use paper::Answer;
+use paper::Measured;
 use paper::Refusal;
+ghost use Rattle.fold.specs.Fold.{SomeWhole};
 ghost use Rattle.fold.specs.Start.{Read};
-ghost use Rattle.catalogue.specs.Streams.{Answered};
+ghost use Rattle.catalogue.specs.Streams.{Sizes, Needed, Answered};
 
-/// The answer for a text of so many statements.
+/// The lengths of both streams and the number of frames, or the first assertion with too many variables.
+fn sizes(text: &[u8], work: &mut [u32], n: usize, rows: usize, names: usize) -> Folded
+    requires { ⌜ SomeWhole (now text) (now work) n rows names ⌝ }
+    ensures { λ r. ⌜ Sizes (now (text .entry)) (now (work .entry)) (now (work .exit)) n rows names r ⌝ }
+{
+    let mut frames = [0u8; 0];
+    let mut diags = [0u8; 0];
+    fold_all(text, work, n, &mut frames, &mut diags, rows, names)
+}
+
+/// What the measure answers for a text of so many statements.
+pub(crate) fn measure_read(text: &[u8], work: &mut [u32], rows: usize) -> Measured
+    requires { ⌜ Read (now text) (now work) rows ⌝ }
+    ensures { λ r. ⌜ Needed (now (text .entry)) (now (work .entry)) rows r ⌝ }
+{
+    let at = start(text, work, rows);
+    match sizes(text, work, at.n, rows, at.names) {
+        Folded::TooMany(s) => Measured::Refused(Refusal::ManyVariables(s.0 as u64)),
+        Folded::Streams(f, d, count) => Measured::Needs(f as u64, d as u64, count as u64),
+    }
+}
+
+/// What the writer answers for a text of so many statements.
 pub(crate) fn answer_read(
     text: &[u8],
     work: &mut [u32],
@@ -20,17 +44,9 @@ pub(crate) fn answer_read(
     ensures { λ r. ⌜ Answered (now (text .entry)) (now (work .entry)) rows (now (frames .entry)) (now (frames .exit)) (now (diags .entry)) (now (diags .exit)) r ⌝ }
 {
     let at = start(text, work, rows);
-    match fold_all(
-        text,
-        work,
-        at.n,
-        &mut frames[..0],
-        &mut diags[..0],
-        rows,
-        at.names,
-    ) {
+    match sizes(text, work, at.n, rows, at.names) {
         Folded::TooMany(s) => Answer::Refused(Refusal::ManyVariables(s.0 as u64)),
-        Folded::Streams(f, d) => {
+        Folded::Streams(f, d, count) => {
             if frames.len() < f {
                 return Answer::Refused(Refusal::ShortFrames(f as u64));
             }
@@ -38,7 +54,7 @@ pub(crate) fn answer_read(
                 return Answer::Refused(Refusal::ShortDiags(d as u64));
             }
             fold_all(text, work, at.n, frames, diags, rows, at.names);
-            Answer::Done(f as u64, d as u64)
+            Answer::Done(f as u64, d as u64, count as u64)
         }
     }
 }

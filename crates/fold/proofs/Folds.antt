@@ -7,7 +7,7 @@ use mathlib.Core.Option.{none, some}
 use Prim.Native.Nat.{ℕ, _+_, _*_, _<_, _≤_, _^_}
 use native.Mathlib.Numerals.{add-one}
 use native.Mathlib.Omega.{arith}
-use lib.ListN.{length, drop}
+use lib.ListN.{length, drop, length-append}
 use Rattle.paper.specs.Base.{find, gather, table}
 use Rattle.paper.specs.Statements.{Statement}
 use Rattle.paper.specs.Frames.{Frame}
@@ -34,9 +34,10 @@ use Rattle.fold.specs.declared.all.Step.the-variants as step
 use Rattle.fold.specs.declared.all.Folded.{Folded}
 use Rattle.fold.specs.declared.all.Folded.the-variants as folded
 use Rattle.fold.specs.Turn.{SomeTurn, Told, told, over}
-use Rattle.fold.specs.Fold.{Before, SomeBefore, Stepped, Blank, SomeBlank, Whole, SomeWhole, Streamed, streams, crowd, FoldsBlank, FoldsAll}
+use Rattle.fold.specs.Fold.{Before, SomeBefore, Stepped, Stored, Blank, SomeBlank, Whole, SomeWhole, Streamed, streams, crowd, FoldsBlank, FoldsAll}
 use Rattle.fold.specs.Fold as fold
 use Rattle.fold.proofs.Kept.{numbered-same, turn-of, rows-renumbered}
+use Rattle.fold.proofs.Counts.{moved, at-most-one}
 
 -- ---- one statement
 pub some-turn : {t w v o o′ : List ℕ} {n : ℕ} {st s : Scope} {k : ℕ} → SomeBefore t w n st k → checks.Steps t w v o o′ n st s k → SomeTurn t v n s k
@@ -77,27 +78,30 @@ frame-offset l k f e =
     all-first a
 
 -- ---- so many statements are done
-pub record Far (w b₀ b : List ℕ) (n : ℕ) (l : List Statement) (at k : ℕ) : Type 0 where
+pub record Far (w b₀ b : List ℕ) (n : ℕ) (l : List Statement) (at count k : ℕ) : Type 0 where
   pub free : Numbered w n l []
   pub few : find crowded (frames-in (table (given-at l) k)) ≡ none
   pub told : Wrote b₀ b 0 at (gather frame-records (table (given-at l) k))
   pub place : at ≤ 4294967300 * k
+  pub counted : count ≡ length (frames-in (table (given-at l) k))
 
-pub record InvFold (t w₀ w b₀ b o₀ o : List ℕ) (n rows : ℕ) (st : Scope) (at k : ℕ) : Type 0 where
+pub record InvFold (t w₀ w b₀ b o₀ o : List ℕ) (n rows : ℕ) (st : Scope) (at count k : ℕ) : Type 0 where
   pub checks : laws.InvRows t w₀ w o₀ o n rows st k
   pub len : length b ≡ length b₀
-  pub sim : {l : List Statement} → Blank t w₀ n rows l → Far w b₀ b n l at k
+  pub few : count ≤ k
+  pub sim : {l : List Statement} → Blank t w₀ n rows l → Far w b₀ b n l at count k
 
-pub fold-start : {t w b o : List ℕ} {n rows : ℕ} → InvFold t w w b b o o n rows (record { es = 0; ds = 0; diags = 0 }) 0 0
+pub fold-start : {t w b o : List ℕ} {n rows : ℕ} → InvFold t w w b b o o n rows (record { es = 0; ds = 0; diags = 0 }) 0 0 0
 unfolding table gather find
 fold-start {b = b} =
     record {
       checks = laws.rows-start;
       len = refl;
-      sim = λ {l} x. record { free = x .unframed .free; few = refl; told = wrote-none b 0; place = omega arith };
+      few = omega arith;
+      sim = λ {l} x. record { free = x .unframed .free; few = refl; told = wrote-none b 0; place = omega arith; counted = refl };
     }
 
-module _ {t w₀ w b₀ b o₀ o : List ℕ} {n rows : ℕ} {st : Scope} {at k : ℕ} (h : k < rows) (x : InvFold t w₀ w b₀ b o₀ o n rows st at k) where
+module _ {t w₀ w b₀ b o₀ o : List ℕ} {n rows : ℕ} {st : Scope} {at count k : ℕ} (h : k < rows) (x : InvFold t w₀ w b₀ b o₀ o n rows st at count k) where
   before-of : {l : List Statement} → Blank t w₀ n rows l → Before t w n l st k
   before-of z =
       record {
@@ -112,28 +116,35 @@ module _ {t w₀ w b₀ b o₀ o : List ℕ} {n rows : ℕ} {st : Scope} {at k :
         omega (arith, x .sim (z .holds) .place, c .count, c .named .shape .few, c .room .small),
       )
 
+  pub can-count : {r c : ℕ} → SomeBlank t w₀ n rows → Stored at r c → count + c < 4294967296
+  can-count z e = let b = z .holds .checks in omega (arith, at-most-one e, x .few, b .count, b .named .shape .few, b .room .small)
+
   -- the row is still there
   pub row-room : {u : List ℕ} → SomeBlank t w₀ n rows → length u ≡ length w → Room u n × (3 * k + 3 ≤ n)
   row-room z e =
       let c = laws.before-of h (x .checks) (z .holds .checks) in
       (record { room = omega (arith, e, c .room .room); small = c .room .small }, laws.before-room c)
 
-  far-more : {l : List Statement} {u b′ : List ℕ} {r : ℕ} → Blank t w₀ n rows l → Numbered u n l [] → Told b b′ at (given-at l k) (After r) → Far u b₀ b′ n l r (k + 1)
-  far-more {l} z free (told none-here wrote) =
+  far-more : {l : List Statement} {u b′ : List ℕ} {r c : ℕ} → Blank t w₀ n rows l → Numbered u n l [] → Told b b′ at (given-at l k) (After r) → Stored at r c
+      → Far u b₀ b′ n l r (count + c) (k + 1)
+  far-more {l} z free (told none-here wrote) e =
       let f = x .sim z in
       record {
         free = free;
         few = rw (frames-more l k) (find-append crowded (frames-in (table (given-at l) k)) (given-at l k .frame) ∙ rw (f .few, none-here));
         told = wrote-as (wrote-then (f .told) wrote) (records-more l k);
         place = omega (arith, f .place, wrote .place, z .unframed .short k (omega (arith, h, z .checks .count)) none-here);
+        counted = rw (frames-more l k) (omega (arith, f .counted, moved l k (wrote .place) e, length-append (frames-in (table (given-at l) k)) (given-at l k .frame)));
       }
 
-  pub fold-next : {u b′ o′ : List ℕ} {s : Scope} {r : ℕ} → length o′ ≡ length o → Stepped t w u b b′ o o′ n st at k (step.Next s r) → InvFold t w₀ u b₀ b′ o₀ o′ n rows s r (k + 1)
-  fold-next len (fold.next y z) =
+  pub fold-next : {u b′ o′ : List ℕ} {s : Scope} {r c : ℕ} → length o′ ≡ length o → Stepped t w u b b′ o o′ n st at k (step.Next s r) → Stored at r c
+      → InvFold t w₀ u b₀ b′ o₀ o′ n rows s r (count + c) (k + 1)
+  fold-next {r = r} len (fold.next y z) e =
       record {
         checks = rows-renumbered (z .kept) (laws.rows-step h (x .checks) y len);
         len = z .len ∙ x .len;
-        sim = λ {l} a. let q = z .sim (turn-of (before-of a) y) in far-more a (q .0) (q .1);
+        few = omega (arith, x .few, at-most-one e);
+        sim = λ {l} a. let q = z .sim (turn-of (before-of a) y) in far-more a (q .0) (q .1) e;
       }
 
   -- ---- the end at a frame with too many variables
@@ -162,8 +173,8 @@ module _ {t w₀ w b₀ b o₀ o : List ℕ} {n rows : ℕ} {st : Scope} {at k :
       }
 
 -- ---- the end after all
-pub fold-end : {t w₀ w b₀ b o₀ o : List ℕ} {n rows : ℕ} {st : Scope} {at k : ℕ} → rows ≤ k → InvFold t w₀ w b₀ b o₀ o n rows st at k
-    → FoldsBlank t w₀ w b₀ b o₀ o n rows (folded.Streams at (st .diags))
+pub fold-end : {t w₀ w b₀ b o₀ o : List ℕ} {n rows : ℕ} {st : Scope} {at count k : ℕ} → rows ≤ k → InvFold t w₀ w b₀ b o₀ o n rows st at count k
+    → FoldsBlank t w₀ w b₀ b o₀ o n rows (folded.Streams at (st .diags) count)
 unfolding frame-stream
 fold-end {k = k} h x =
     let c = laws.rows-end h (x .checks) in
@@ -176,7 +187,8 @@ fold-end {k = k} h x =
           let y = c .sim (a .checks) in
           let e : all-given l ≡ table (given-at l) k = all-given-table l ∙ ap (table (given-at l)) (omega (arith, h, x .checks .upto, a .checks .count)) in (
             record { marks = y .marks; free = f .free },
-            streams (ap (λ m. find crowded (frames-in m)) e ∙ f .few) (wrote-as (f .told) (ap (gather frame-records) e)) (y .diags),
+            streams (ap (λ m. find crowded (frames-in m)) e ∙ f .few) (wrote-as (f .told) (ap (gather frame-records) e)) (y .diags)
+                (f .counted ∙ ap (λ m. length (frames-in m)) (sym e)),
           );
     }
 

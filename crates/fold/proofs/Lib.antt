@@ -5,6 +5,7 @@ pub mod Floats
 pub mod Framing
 pub mod Turns
 pub mod Kept
+pub mod Counts
 pub mod Folds
 pub mod Short
 pub mod Starts

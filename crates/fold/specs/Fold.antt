@@ -4,8 +4,9 @@ use mathlib.Core.Path.{_≡_}
 use mathlib.Core.List.{List, []}
 use mathlib.Core.Option.{none, some}
 use Prim.Native.Nat.{ℕ, _<_, _≤_}
+use lib.Dec.{ltb}
 use lib.ListN.{length}
-use Rattle.paper.specs.Base.{find}
+use Rattle.paper.specs.Base.{choose, find}
 use Rattle.paper.specs.Statements.{Statement}
 use Rattle.paper.specs.Frames.{Frame}
 use Rattle.paper.specs.Give.{Given, all-given}
@@ -50,6 +51,10 @@ pub data Stepped (t w u b b′ o o′ : List ℕ) (n : ℕ) (st : Scope) (at k :
   over : {v : List ℕ} {s : Scope}
       → checks.Steps t w v o o′ n st s k → Turned t v u n s k b b′ at TooMany → Stepped t w u b b′ o o′ n st at k step.Over
 
+-- how many records a statement stored that moved the place: 1, since it has at most one and none is empty, or 0
+pub record Stored (at after r : ℕ) : Type 0 where
+  pub is : r ≡ choose (ltb at after) 1 0
+
 -- ---- all statements
 pub record Blank (t w : List ℕ) (n rows : ℕ) (l : List Statement) : Type 0 where
   pub checks : checks.Blank t w n rows l
@@ -68,10 +73,11 @@ pub record SomeWhole (t w : List ℕ) (n rows names : ℕ) : Type 0 where
   pub of : List Statement
   pub holds : Whole t w n rows names of
 
--- both streams of what the statements give; or the first frame with over 4,095 variables
+-- both streams of what the statements give, and the number of frames; or the first frame with over 4,095 variables
 pub data Streamed (b b′ o o′ : List ℕ) (g : List Given) : Folded → Type 0 where
-  streams : {f d : ℕ}
-      → find crowded (frames-in g) ≡ none → Wrote b b′ 0 f (frame-stream g) → Wrote o o′ 0 d (diag-stream g) → Streamed b b′ o o′ g (folded.Streams f d)
+  streams : {f d n : ℕ}
+      → find crowded (frames-in g) ≡ none → Wrote b b′ 0 f (frame-stream g) → Wrote o o′ 0 d (diag-stream g) → n ≡ length (frames-in g)
+      → Streamed b b′ o o′ g (folded.Streams f d n)
   crowd : (x : Frame) → find crowded (frames-in g) ≡ some x → Streamed b b′ o o′ g (folded.TooMany (record { 0 = frame-at x }))
 
 -- the words are named as before, no mark is left and no variable numbered

@@ -8,7 +8,7 @@ use scopeck::statements::check_statement;
 use scopeck::statements::forget_all;
 use slots::cells::of_statement;
 ghost use Prim.Native.Nat.{_<_, _^_};
-ghost use Rattle.fold.specs.Fold.{SomeBefore, Stepped, SomeBlank, FoldsBlank, SomeWhole, FoldsAll};
+ghost use Rattle.fold.specs.Fold.{SomeBefore, Stepped, Stored, SomeBlank, FoldsBlank, SomeWhole, FoldsAll};
 
 /// The state after a statement and the place after its frame, or too many variables.
 pub enum Step {
@@ -16,9 +16,9 @@ pub enum Step {
     Over,
 }
 
-/// The used lengths of frames and diagnostics, or the first assertion with too many variables.
+/// The used lengths of frames and diagnostics and the number of frames, or the first assertion with too many variables.
 pub enum Folded {
-    Streams(usize, usize),
+    Streams(usize, usize, usize),
     TooMany(StatementOffset),
 }
 
@@ -43,6 +43,16 @@ pub fn fold_statement(
     }
 }
 
+/// How many records a statement stored: 1 if the place moved, since it has at most one and none is empty.
+fn stored(at: usize, after: usize) -> usize
+    ensures { λ r. ⌜ Stored at after r ⌝ }
+{
+    if at < after {
+        return 1;
+    }
+    0
+}
+
 /// The statements of all rows, where nothing is recorded yet.
 pub fn fold_rows(
     text: &[u8],
@@ -61,10 +71,12 @@ pub fn fold_rows(
         diags: 0,
     };
     let mut at = 0;
+    let mut count = 0;
     let mut row = 0;
     while row < rows {
         match fold_statement(text, work, n, frames, diags, st, at, row) {
             Step::Next(next, after) => {
+                count += stored(at, after);
                 st = next;
                 at = after;
             }
@@ -77,7 +89,7 @@ pub fn fold_rows(
         }
         row += 1;
     }
-    Folded::Streams(at, st.diags)
+    Folded::Streams(at, st.diags, count)
 }
 
 /// The fold over all statements of a text that is named and whose constants are marked.

@@ -44,7 +44,7 @@ fn write_stream(frames: &[u8], used: usize) {
 
 fn write_answer(frames: &[u8], folded: Folded) {
     match folded {
-        Folded::Streams(used, _) => write_stream(frames, used),
+        Folded::Streams(used, _, _) => write_stream(frames, used),
         Folded::TooMany(at) => {
             write_number(4294967294);
             write_number(at.0 as u64);

@@ -11,6 +11,7 @@ pub mod Slips
 pub mod Edges
 pub mod Lookups
 pub mod Readings
+pub mod Measures
 pub mod Searches
 pub mod Sums
 pub mod Gather

@@ -1,5 +1,5 @@
--- Numbers given back: the answer, with 0 to 9 in their order, and every lent buffer at exit.
--- Numbers 1 to 9 report both used lengths as 0 and change neither output buffer.
+-- Numbers given back: what measure and writer answer, with 0 to 9 in their order, and every lent buffer at exit.
+-- Numbers 1 to 9 report all lengths as 0 and change neither output buffer; the measure gives none of 8 and 9.
 use mathlib.Core.Bool.{Bool, false}
 use mathlib.Core.List.{List, _++_}
 use mathlib.Core.Option.{Option, none, some}
@@ -14,6 +14,8 @@ use Rattle.paper.specs.Give.{Given, all-given}
 use Rattle.paper.specs.Records.{frame-stream, diag-stream}
 use Rattle.paper.specs.declared.Refusal.{Refusal}
 use Rattle.paper.specs.declared.Refusal.the-variants.{LongText, ShortWork, BadByte, OpenComment, BadToken, OpenText, ManyVariables, ShortFrames, ShortDiags}
+use Rattle.paper.specs.declared.Measured.{Measured}
+use Rattle.paper.specs.declared.Measured.the-variants as lengths
 use Rattle.paper.specs.declared.Answer.{Answer}
 use Rattle.paper.specs.declared.Answer.the-variants.{Done, Refused}
 
@@ -40,22 +42,47 @@ refusal-place (ManyVariables p) = p
 refusal-place (ShortFrames p) = p
 refusal-place (ShortDiags p) = p
 
--- ---- number, place and used lengths of an answer
+-- ---- number, place, lengths and number of frames of what the measure answers
+abbrev pub measured-number : Measured → ℕ
+measured-number (lengths.Needs f d n) = 0
+measured-number (lengths.Refused r) = refusal-number r
+
+abbrev pub measured-place : Measured → ℕ
+measured-place (lengths.Needs f d n) = 0
+measured-place (lengths.Refused r) = refusal-place r
+
+abbrev pub frames-needed : Measured → ℕ
+frames-needed (lengths.Needs f d n) = f
+frames-needed (lengths.Refused r) = 0
+
+abbrev pub diags-needed : Measured → ℕ
+diags-needed (lengths.Needs f d n) = d
+diags-needed (lengths.Refused r) = 0
+
+abbrev pub measured-count : Measured → ℕ
+measured-count (lengths.Needs f d n) = n
+measured-count (lengths.Refused r) = 0
+
+-- ---- number, place, used lengths and number of frames of what the writer answers
 abbrev pub number : Answer → ℕ
-number (Done f d) = 0
+number (Done f d n) = 0
 number (Refused r) = refusal-number r
 
 abbrev pub place : Answer → ℕ
-place (Done f d) = 0
+place (Done f d n) = 0
 place (Refused r) = refusal-place r
 
 abbrev pub frames-used : Answer → ℕ
-frames-used (Done f d) = f
+frames-used (Done f d n) = f
 frames-used (Refused r) = 0
 
 abbrev pub diags-used : Answer → ℕ
-diags-used (Done f d) = d
+diags-used (Done f d n) = d
 diags-used (Refused r) = 0
+
+abbrev pub count : Answer → ℕ
+count (Done f d n) = n
+count (Refused r) = 0
 
 -- ---- number 7: an assertion's frame has over 4,095 variables
 abbrev pub crowded : Frame → Bool
@@ -69,18 +96,45 @@ frame-at (full f) = f .at
 abbrev pub frames-in : List Given → List Frame
 frames-in l = gather (λ g. g .frame) l
 
+-- both streams, and how many records the first has
 pub record Streams : Type 0 where
   pub frames : List ℕ
   pub diags : List ℕ
+  pub count : ℕ
 
+abbrev pub streams : List Given → Streams
+streams l = record { frames = frame-stream l; diags = diag-stream l; count = length (frames-in l) }
+
+-- ---- what the measure answers
+abbrev pub unless-crowded : Option Frame → List Given → Outcome Streams
+unless-crowded (some x) l = refused (ManyVariables (frame-at x))
+unless-crowded none l = given (streams l)
+
+-- number 7, for what the statements give
+unfoldable pub measured : List Given → Outcome Streams
+measured l = unless-crowded (find crowded (frames-in l)) l
+
+abbrev pub measured-of : Outcome (List Statement) → Outcome Streams
+measured-of (refused r) = refused r
+measured-of (given l) = measured (all-given l)
+
+-- the streams of a text, given so many words of work area; or one of numbers 1 to 7
+unfoldable pub measuring : List ℕ → ℕ → Outcome Streams
+measuring t w = measured-of (reading t w)
+
+abbrev pub needs-of : Outcome Streams → Measured
+needs-of (refused r) = lengths.Refused r
+needs-of (given s) = lengths.Needs (length (s .frames)) (length (s .diags)) (s .count)
+
+unfoldable pub measure : List ℕ → ℕ → Measured
+measure t w = needs-of (measuring t w)
+
+-- ---- what the writer answers
 -- numbers 8 and 9, for buffers of f and d bytes
 abbrev pub fitting : Streams → ℕ → ℕ → Outcome Streams
 fitting s f d =
     choose (ltb f (length (s .frames))) (refused (ShortFrames (length (s .frames))))
     (choose (ltb d (length (s .diags))) (refused (ShortDiags (length (s .diags)))) (given s))
-
-abbrev pub streams : List Given → Streams
-streams l = record { frames = frame-stream l; diags = diag-stream l }
 
 abbrev pub numbered : Option Frame → List Given → ℕ → ℕ → Outcome Streams
 numbered (some x) l f d = refused (ManyVariables (frame-at x))
@@ -98,10 +152,9 @@ written-of (given l) f d = written (all-given l) f d
 unfoldable pub outcome : List ℕ → ℕ → ℕ → ℕ → Outcome Streams
 outcome t w f d = written-of (reading t w) f d
 
--- ---- what the operation answers
 abbrev pub answer-of : Outcome Streams → Answer
 answer-of (refused r) = Refused r
-answer-of (given s) = Done (length (s .frames)) (length (s .diags))
+answer-of (given s) = Done (length (s .frames)) (length (s .diags)) (s .count)
 
 unfoldable pub answer : List ℕ → ℕ → ℕ → ℕ → Answer
 answer t w f d = answer-of (outcome t w f d)

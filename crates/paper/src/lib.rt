@@ -32,9 +32,15 @@ pub enum Reading {
     Unread(Refusal),
 }
 
-/// What the operation answers: the used lengths, or a refusal.
+/// What the measure answers: the bytes of frames and of diagnostics and the number of frames, or a refusal.
+pub enum Measured {
+    Needs(u64, u64, u64),
+    Refused(Refusal),
+}
+
+/// What the writer answers: the used lengths and the number of frames, or a refusal.
 pub enum Answer {
-    Done(u64, u64),
+    Done(u64, u64, u64),
     Refused(Refusal),
 }
 

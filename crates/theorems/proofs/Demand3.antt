@@ -19,7 +19,7 @@ use Rattle.paper.proofs.Lists.{gather-append, keep-append}
 use Rattle.paper.proofs.Alls.{All, all-append, all-left, all-right, all-map, keep-all, keep-none}
 use Rattle.paper.proofs.Searches.{all-gather, find-none, none-find}
 use Rattle.theorems.specs.Groups.{Group, statements, blanked, Apart}
-use Rattle.theorems.specs.TakenOut.{taken-out, streams-without}
+use Rattle.theorems.specs.TakenOut.{taken-out, records-in, streams-without}
 use Rattle.theorems.specs.Demand3.{Blanked, Demand3, frame-outside, diag-outside, diags-in, Exact}
 use Rattle.theorems.proofs.Tokens.{Parts, blanked-parts}
 use Rattle.theorems.proofs.Parts.{Split, split-group, Three, three}
@@ -153,7 +153,9 @@ module _ {w x : List Statement} {p q : ℕ} (h : Three w x p q) (k : Parted w x 
       e .frames-stay ∙ (ap (gather frame-record) frames-kept ∙ sym (frame-stream-is (all-given x))) in
       let b : taken-out p q (diag-stream (all-given w)) ≡ diag-stream (all-given x) =
       e .diags-stay ∙ (ap (gather diag-record) diags-kept ∙ sym (diag-stream-is (all-given x))) in
-      rw (a, b)
+      let c : records-in (frame-stream (all-given x)) ≡ length (frames-in (all-given x)) =
+      ap records-in (sym a) ∙ (e .count-stays ∙ ap length frames-kept) in
+      rw (a, b, c)
 
 -- ---- the theorem
 -- by the outcome of the blanked text

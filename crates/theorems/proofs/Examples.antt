@@ -23,7 +23,7 @@ use Rattle.paper.specs.Records.{le, u16, u32, string, framed, diag-record, frag
 use Rattle.paper.specs.Answer.{Streams, written, outcome, answer, laid}
 use Rattle.paper.specs.Lookup.{u16-at, u32-at}
 use Rattle.theorems.specs.Groups.{closer, blanked}
-use Rattle.theorems.specs.TakenOut.{walk, taken-out}
+use Rattle.theorems.specs.TakenOut.{walk, taken-out, records-from, records-in}
 use Rattle.theorems.specs.Demand3.{Blanked}
 use Rattle.theorems.specs.Examples.{buffer, outcome-of, label-text, symbol-text, without, nested-text, variable-text, comment-text, Examples}
 
@@ -45,7 +45,7 @@ same-kind : {t : List ℕ} {p q : ℕ} → Blanked t buffer buffer buffer p q
 same-kind {p = p} {q = q} b = ap first-kind (b .are ∙ sym (ap (without p q) (b .were)))
 
 pub examples : Examples
-unfolding sameb all any keep find latest gather table white printable label-byte math-byte run toks tokens label-token math-token key bad-from after visible outermost closers ends allow many items words reading labels owner declared global view nested-of float-of sense each check-label check-outer verdict records nested-records nested-diags check-float check-expression first-index check-disjoint formula sights variables-of index raised pool-of fragments rump expression hypotheses in-order pairs-in new-pairs pairs rows mandatory frame-of give-c give-v give-d give-f give-e give-assertion give gives all-given le u16 u32 string framed diag-record fragment-bytes expression-bytes hypothesis-bytes pair-bytes octet row-bytes full-payload frame-record frame-records diag-records frame-stream diag-stream written outcome answer laid u16-at u32-at closer blanked walk taken-out
+unfolding sameb all any keep find latest gather table white printable label-byte math-byte run toks tokens label-token math-token key bad-from after visible outermost closers ends allow many items words reading labels owner declared global view nested-of float-of sense each check-label check-outer verdict records nested-records nested-diags check-float check-expression first-index check-disjoint formula sights variables-of index raised pool-of fragments rump expression hypotheses in-order pairs-in new-pairs pairs rows mandatory frame-of give-c give-v give-d give-f give-e give-assertion give gives all-given le u16 u32 string framed diag-record fragment-bytes expression-bytes hypothesis-bytes pair-bytes octet row-bytes full-payload frame-record frame-records diag-records frame-stream diag-stream written outcome answer laid u16-at u32-at closer blanked walk taken-out records-from records-in
 examples =
     record {
       labels-needed =

@@ -16,3 +16,4 @@ pub mod Records
 pub mod Demand3
 pub mod Examples
 pub mod Unique
+pub mod Measured

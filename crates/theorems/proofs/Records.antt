@@ -9,7 +9,7 @@ use lib.ListN.{length, length-append}
 use lib.Dec.{ltb}
 use borrow.Author.Tests.{eq-eqb, lt-ltb}
 use Rattle.paper.specs.Lookup.{u32-at}
-use Rattle.paper.specs.Base.{find, gather}
+use Rattle.paper.specs.Base.{find, keep, gather}
 use Rattle.paper.specs.Tokens.{tokens}
 use Rattle.paper.specs.Statements.{Statement, Item, ends}
 use Rattle.paper.specs.Reader.{given, items}
@@ -21,14 +21,14 @@ use Rattle.paper.specs.Records.{u32, diag-record, frame-record, frame-records, 
 use Rattle.paper.specs.Answer.{crowded, frame-at, frames-in, streams}
 use Rattle.paper.proofs.Lists.{gather-append}
 use Rattle.paper.proofs.Sums.{total}
-use Rattle.paper.proofs.Alls.{All, all-map, all-both}
+use Rattle.paper.proofs.Alls.{All, all-map, all-both, all-keep}
 use Rattle.paper.proofs.Searches.{all-gather, find-none, all-true}
-use Rattle.theorems.specs.TakenOut.{taken-out}
-use Rattle.theorems.specs.Demand3.{Offsets, diags-in, Exact, Walked}
+use Rattle.theorems.specs.TakenOut.{taken-out, records-in}
+use Rattle.theorems.specs.Demand3.{Offsets, frame-outside, diags-in, Exact, Walked}
 use Rattle.theorems.proofs.Reader.{reads-at}
 use Rattle.theorems.proofs.Ends.{ends-at}
 use Rattle.theorems.proofs.Parts.{items-read, read-reads, shown-at}
-use Rattle.theorems.proofs.Streams.{offset-framed, Sound, taken-gather}
+use Rattle.theorems.proofs.Streams.{offset-framed, Sound, taken-gather, counted-gather}
 use Rattle.theorems.proofs.Offsets.{give-at, diags-at, frames-at}
 use Rattle.theorems.proofs.Weights.{statements-weight, text-weight}
 use Rattle.theorems.proofs.Lengths.{u32-length, kind-of, rest-of, frame-framed, Short}
@@ -116,12 +116,16 @@ exact t w l h c p q =
     rw e (all-map (λ s k. omega (arith, h .small)) (text-at t (h .read) (h .reads))) in
     let a : All (λ s. s .at < 4294967296) l = all-map (λ s k. omega arith) z in
     let b : statements-weight l ≤ 16777217 = rw e (omega (arith, text-weight t (h .read) (h .reads), h .small)) in
+    let i = frames-sound a b c in
+    let j : taken-out p q (frame-stream (all-given l)) ≡ gather frame-record (keep (frame-outside p q) (frames-in (all-given l))) =
+    ap (taken-out p q) (frame-stream-is (all-given l)) ∙ taken-gather frame-record frame-at p q i in
     record {
       low = all-true (λ r. ltb (r .at) 16777216) (all-map (λ r k. lt-ltb (r .at) 16777216 k) z);
       frames = frame-stream-is (all-given l);
       diags = diag-stream-is (all-given l);
-      frames-stay =
-          ap (taken-out p q) (frame-stream-is (all-given l)) ∙ taken-gather frame-record frame-at p q (frames-sound a b c);
+      count = sym (ap records-in (frame-stream-is (all-given l)) ∙ counted-gather frame-record frame-at i);
+      frames-stay = j;
+      count-stays = ap records-in j ∙ counted-gather frame-record frame-at (all-keep (frame-outside p q) i);
       diags-stay =
           ap (taken-out p q) (diag-stream-is (all-given l)) ∙ taken-gather diag-record (λ x. x .statement) p q (diags-sound a);
     }

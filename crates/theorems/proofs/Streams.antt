@@ -11,7 +11,7 @@ use Rattle.paper.specs.Records.{le, u16, u32, framed}
 use Rattle.paper.specs.Lookup.{u16-at, u32-at}
 use Rattle.paper.proofs.Tests.{split}
 use Rattle.paper.proofs.Alls.{All, all-none, all-more}
-use Rattle.theorems.specs.TakenOut.{walk, taken-out}
+use Rattle.theorems.specs.TakenOut.{walk, taken-out, records-from, records-in}
 
 -- ---- four bytes and their number
 u32-value : (n : ℕ) → n < 4294967296
@@ -56,6 +56,25 @@ module _ (p q : ℕ) where
       (omega (arith, u32-value n (omega arith)))
       (u32-value o g)
 
+-- ---- the count, by one record
+records-over : (a b : List ℕ) → records-from (a ++ b) (length a) ≡ records-from b 0
+unfolding records-from
+records-over [] b = refl
+records-over (c ∷ a) b = records-over a b
+
+records-bytes : (c : ℕ) (a b : List ℕ) → 3 + u32-at (c ∷ (a ++ b)) 0 ≡ length a → records-from (c ∷ (a ++ b)) 0 ≡ suc (records-from b 0)
+unfolding records-from
+records-bytes c a b e = rw e (ap suc (records-over a b))
+
+records-framed : (k : ℕ) (r b : List ℕ) → 2 + length r < 4294967296 → records-from (framed k r ++ b) 0 ≡ suc (records-from b 0)
+unfolding framed u32 u16 le u32-at u16-at
+records-framed k r b h =
+    let n = 2 + length r in
+    records-bytes (n % 256)
+    (n / 256 % 256 ∷ n / 256 / 256 % 256 ∷ n / 256 / 256 / 256 % 256 ∷ k % 256 ∷ k / 256 % 256 ∷ r)
+    b
+    (omega (arith, u32-value n (omega arith)))
+
 -- the four bytes after length and kind
 pub offset-framed : (k o : ℕ) (r : List ℕ) → o < 4294967296 → u32-at (framed k (u32 o ++ r)) 6 ≡ o
 unfolding framed u32 u16 le u32-at u16-at
@@ -68,6 +87,10 @@ pub record Sound (bytes : List ℕ) (o : ℕ) : Type 0 where
   pub are : bytes ≡ framed kind (u32 o ++ rest)
   pub short : 6 + length rest < 4294967296
   pub low : o < 4294967296
+
+sound-short : {c : List ℕ} {o : ℕ} (h : Sound c o) → 2 + length (u32 o ++ h .rest) < 4294967296
+unfolding u32 le
+sound-short h = omega (arith, h .short)
 
 walk-sound : {c : List ℕ} {o : ℕ} (p q : ℕ) → Sound c o → (b : List ℕ) (f : Bool)
     → walk p q (c ++ b) 0 f ≡ choose (not (within p q o)) c [] ++ walk p q b 0 true
@@ -87,3 +110,17 @@ module _ {A : Type 0} (f : A → List ℕ) (at : A → ℕ) (p q : ℕ) where
       → taken-out p q (gather f l) ≡ gather f (keep (λ x. not (within p q (at x))) l)
   unfolding taken-out
   taken-gather a = walk-gather a true
+
+-- ---- as many records as there are
+module _ {A : Type 0} (f : A → List ℕ) (at : A → ℕ) where
+  records-gather : {l : List A} → All (λ x. Sound (f x) (at x)) l → records-from (gather f l) 0 ≡ length l
+  unfolding gather records-from
+  records-gather all-none = refl
+  records-gather (all-more {l = l} h a) =
+      ap (λ (c : List ℕ). records-from (c ++ gather f l) 0) (h .are)
+      ∙ records-framed (h .kind) (u32 _ ++ h .rest) (gather f l) (sound-short h)
+      ∙ ap suc (records-gather a)
+
+  pub counted-gather : {l : List A} → All (λ x. Sound (f x) (at x)) l → records-in (gather f l) ≡ length l
+  unfolding records-in
+  counted-gather a = records-gather a

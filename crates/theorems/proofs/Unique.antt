@@ -1,7 +1,15 @@
 -- Uniqueness, proved: both results are the same function of the inputs, field by field.
 -- Assumes nothing.
 use mathlib.Core.Path.{sym, _∙_}
-use Rattle.theorems.specs.Unique.{Unique, UniqueLook}
+use Rattle.theorems.specs.Unique.{UniqueMeasure, Unique, UniqueLook}
+
+pub unique-measure : UniqueMeasure
+unique-measure t w r s a b =
+    λ i.
+    record {
+      measured = (a .measures ∙ sym (b .measures)) i;
+      work = (a .work-holds ∙ sym (b .work-holds)) i;
+    }
 
 pub unique : Unique
 unique t w f d r s a b =

@@ -17,7 +17,7 @@ use Rattle.paper.specs.Records.{frame-record, diag-record}
 use Rattle.paper.specs.Answer.{Streams, number, frame-at, frames-in, outcome, answer, laid, frames-exit, diags-exit}
 use Rattle.paper.specs.Lookup.{u32-at}
 use Rattle.theorems.specs.Groups.{Group, statements, blanked, Apart}
-use Rattle.theorems.specs.TakenOut.{taken-out, streams-without}
+use Rattle.theorems.specs.TakenOut.{taken-out, records-in, streams-without}
 
 -- what the text with the group blanked gives, by what the text gives
 pub record Blanked (t w f d : List ℕ) (p q : ℕ) : Type 0 where
@@ -63,7 +63,9 @@ pub record Exact (l : List Statement) (s : Streams) (p q : ℕ) : Type 0 where
   pub low : all (λ r. ltb (r .at) 16777216) l ≡ true
   pub frames : s .frames ≡ gather frame-record (frames-in (all-given l))
   pub diags : s .diags ≡ gather diag-record (diags-in (all-given l))
+  pub count : s .count ≡ records-in (s .frames)
   pub frames-stay : taken-out p q (s .frames) ≡ gather frame-record (keep (frame-outside p q) (frames-in (all-given l)))
+  pub count-stays : records-in (taken-out p q (s .frames)) ≡ length (keep (frame-outside p q) (frames-in (all-given l)))
   pub diags-stay : taken-out p q (s .diags) ≡ gather diag-record (keep (diag-outside p q) (diags-in (all-given l)))
 
 abbrev pub Walked : Type 0

@@ -58,27 +58,27 @@ nested-text = codes "$c c $. $v x $. f $f c x $. ${ h $e c x $. ${ $d x x $. i $
 
 -- a group in a group, and the group around it
 abbrev pub InnerGroup : Type 0
-InnerGroup = Holds nested-text 43 68 (Done 216 18) (Done 216 0)
+InnerGroup = Holds nested-text 43 68 (Done 216 18 3) (Done 216 0 3)
 
 abbrev pub OuterGroup : Type 0
-OuterGroup = Holds nested-text 28 83 (Done 216 18) (Done 106 0)
+OuterGroup = Holds nested-text 28 83 (Done 216 18 3) (Done 106 0 2)
 
 -- a nested `$v` that shadows nothing
 abbrev pub variable-text : List ℕ
 variable-text = codes "$c c $. ${ $v x $. f $f c x $. a $a c x $. $} ${ $v x $. g $f c x $. $}"
 
 abbrev pub NestedVariable : Type 0
-NestedVariable = Holds variable-text 8 43 (Done 135 0) (Done 29 0)
+NestedVariable = Holds variable-text 8 43 (Done 135 0 3) (Done 29 0 1)
 
 -- a group with a comment at either end, in which stands the other's brace; and an empty group
 abbrev pub comment-text : List ℕ
 comment-text = codes "$c c $. ${ $( $} $) a $a c $. $( ${ $) $} ${ $} b $a c $."
 
 abbrev pub CommentGroup : Type 0
-CommentGroup = Holds comment-text 8 39 (Done 96 0) (Done 48 0)
+CommentGroup = Holds comment-text 8 39 (Done 96 0 2) (Done 48 0 1)
 
 abbrev pub EmptyGroup : Type 0
-EmptyGroup = Holds comment-text 42 45 (Done 96 0) (Done 96 0)
+EmptyGroup = Holds comment-text 42 45 (Done 96 0 2) (Done 96 0 2)
 
 pub record Examples : Type 0 where
   pub labels-needed : LabelsNeeded

@@ -3,3 +3,4 @@ pub mod TakenOut
 pub mod Demand3
 pub mod Examples
 pub mod Unique
+pub mod Measured

@@ -23,6 +23,17 @@ walk p q (c ∷ l) zero b = kept (stays p q (c ∷ l)) c (walk p q l (3 + u32-at
 unfoldable pub taken-out : ℕ → ℕ → List ℕ → List ℕ
 taken-out p q l = walk p q l 0 true
 
--- both streams
+-- how many records some bytes have, of which the first k belong to the record in hand
+unfoldable pub records-from : List ℕ → ℕ → ℕ
+records-from [] k = 0
+records-from (c ∷ l) (suc k) = records-from l k
+records-from (c ∷ l) zero = suc (records-from l (3 + u32-at (c ∷ l) 0))
+
+unfoldable pub records-in : List ℕ → ℕ
+records-in l = records-from l 0
+
+-- both streams, and how many frames stay
 abbrev pub streams-without : ℕ → ℕ → Streams → Streams
-streams-without p q s = record { frames = taken-out p q (s .frames); diags = taken-out p q (s .diags) }
+streams-without p q s =
+    let f = taken-out p q (s .frames) in
+    record { frames = f; diags = taken-out p q (s .diags); count = records-in f }

@@ -1,15 +1,29 @@
--- Uniqueness: any two results that the definitions allow are equal, for the operation and for look-up.
+-- Uniqueness: any two results that the definitions allow are equal, for measure, writer and look-up.
 -- What they allow is a function of the inputs: the answer, and every lent buffer at exit.
 use mathlib.Core.Path.{_≡_}
 use mathlib.Core.List.{List}
 use Prim.Native.Nat.{ℕ}
 use lib.ListN.{length}
-use Rattle.paper.specs.Answer.{answer, frames-exit, diags-exit, work-exit}
+use Rattle.paper.specs.Answer.{measure, answer, frames-exit, diags-exit, work-exit}
 use Rattle.paper.specs.Lookup.{look-up}
+use Rattle.paper.specs.declared.Measured.{Measured}
 use Rattle.paper.specs.declared.Answer.{Answer}
 use Rattle.paper.specs.declared.Found.{Found}
 
--- ---- the operation
+-- ---- the measure
+pub record Measurement : Type 0 where
+  pub measured : Measured
+  pub work : List ℕ
+
+-- allowed for the text t with work area w at entry
+pub record AllowedMeasure (t w : List ℕ) (r : Measurement) : Type 0 where
+  pub measures : r .measured ≡ measure t (length w)
+  pub work-holds : r .work ≡ work-exit w
+
+abbrev pub UniqueMeasure : Type 0
+UniqueMeasure = (t w : List ℕ) (r s : Measurement) → AllowedMeasure t w r → AllowedMeasure t w s → r ≡ s
+
+-- ---- the writer
 pub record Result : Type 0 where
   pub answer : Answer
   pub frames : List ℕ

@@ -1,10 +1,10 @@
 //! The operation on a file.
 //!
 //! `on-file TEXT FRAMES DIAGNOSTICS` writes both streams to files and prints number, place and used lengths.
-//! `on-file --time TEXT ROUNDS` prints, in ms, the best time over buffers that were touched before, the best over buffers that
-//! were not, and the best time that clearing the work area alone takes.
+//! `on-file --time TEXT ROUNDS` prints, in ms, the writer's best time over buffers that were touched before, its best over
+//! buffers that were not, the measure's best time, and the best time that clearing the work area alone takes.
 
-use janorembe::{check, streams};
+use janorembe::{measure, streams, words, write};
 use std::hint::black_box;
 use std::time::Instant;
 
@@ -12,7 +12,7 @@ fn read(path: &str) -> Vec<u8> {
     std::fs::read(path).unwrap_or_else(|e| fail(&format!("{path}: {e}")))
 }
 
-fn write(path: &str, bytes: &[u8]) {
+fn save(path: &str, bytes: &[u8]) {
     std::fs::write(path, bytes).unwrap_or_else(|e| fail(&format!("{path}: {e}")));
 }
 
@@ -24,8 +24,8 @@ fn fail(why: &str) -> ! {
 fn answer(text: &str, frames: &str, diags: &str) {
     match streams(&read(text)) {
         Ok(s) => {
-            write(frames, &s.frames);
-            write(diags, &s.diags);
+            save(frames, &s.frames);
+            save(diags, &s.diags);
             println!("0 0 {} {}", s.frames.len(), s.diags.len());
         }
         Err(a) => println!("{} {} 0 0", a.number, a.place),
@@ -41,24 +41,26 @@ fn milliseconds(run: impl FnOnce()) -> f64 {
 /// The work area is asked for anew in each round, so that its pages are not there yet in the first call.
 fn time(path: &str, rounds: usize) {
     let text = read(path);
-    let needed = check(&text, &mut [], &mut [], &mut []);
-    let words = if needed.number == 2 { needed.place as usize } else { 0 };
+    let words = words(&text);
     let s = streams(&text).unwrap_or_else(|a| fail(&format!("{path}: number {} at {}", a.number, a.place)));
     let (frames_length, diags_length) = (s.frames.len(), s.diags.len());
-    let mut best = [f64::MAX; 3];
+    let mut best = [f64::MAX; 4];
     for _ in 0..rounds {
         let (mut work, mut frames, mut diags) = (vec![0u32; words], vec![0u8; frames_length], vec![0u8; diags_length]);
-        let untouched = milliseconds(|| _ = black_box(check(&text, &mut work, &mut frames, &mut diags)));
-        let touched = milliseconds(|| _ = black_box(check(&text, &mut work, &mut frames, &mut diags)));
+        let untouched = milliseconds(|| _ = black_box(write(&text, &mut work, &mut frames, &mut diags)));
+        let touched = milliseconds(|| _ = black_box(write(&text, &mut work, &mut frames, &mut diags)));
+        let measured = milliseconds(|| _ = black_box(measure(&text, &mut work)));
         let clearing = milliseconds(|| black_box(&mut work).fill(0));
         if frames != s.frames || diags != s.diags {
             fail("two calls gave different streams");
         }
-        best = [best[0].min(touched), best[1].min(untouched), best[2].min(clearing)];
+        for (least, now) in best.iter_mut().zip([touched, untouched, measured, clearing]) {
+            *least = least.min(now);
+        }
     }
     println!(
-        "touched {:.3} untouched {:.3} clearing {:.3} words {words} frames {frames_length}",
-        best[0], best[1], best[2]
+        "touched {:.3} untouched {:.3} measured {:.3} clearing {:.3} words {words} frames {frames_length}",
+        best[0], best[1], best[2], best[3]
     );
 }
 

@@ -1,7 +1,7 @@
 //! What the tests share: the vectors, runs over buffers that hold something, and a generator of random numbers.
 #![allow(dead_code)]
 
-use janorembe::{check, Answer};
+use janorembe::{measure, write, Answer};
 use std::path::PathBuf;
 
 pub const FILES: [&str; 4] = ["base.txt", "generated.txt", "damaged.txt", "original.txt"];
@@ -97,23 +97,53 @@ fn assert_kept(buffer: &[u8], used: usize, name: &str, which: &str) {
     assert_eq!(changed, None, "{name}: a byte of the {which} past the used part is changed");
 }
 
-/// One call over buffers that hold something. What must hold of every call is tested here: the number is one of the check's,
-/// a refusal uses nothing, every byte past the used parts is as before, and the work area is zero.
-pub fn run(name: &str, text: &[u8], words: usize, frames_length: usize, diags_length: usize) -> Run {
-    let held = [0xDEAD_BEEF, 0, 1, u32::MAX][text.len() % 4];
-    let mut work = vec![held; words];
-    let mut frames = filled(frames_length);
-    let mut diags = filled(diags_length);
-    let answer = check(text, &mut work, &mut frames, &mut diags);
-    assert!(answer.number <= 9, "{name}: number {}", answer.number);
+/// What must hold of every answer: the number is at most `most`, words that nothing speaks of are 0, and so are the lengths of a
+/// refusal.
+fn assert_answer(name: &str, answer: &Answer, most: u32) {
+    assert!(answer.number <= most, "{name}: number {}", answer.number);
+    assert_eq!(
+        (answer.segment, answer.line, answer.verdicts, answer.spare),
+        (0, 0, 0, 0),
+        "{name}: words not spoken of"
+    );
     if answer.number == 0 {
         assert_eq!(answer.place, 0, "{name}: place");
     } else {
-        assert_eq!((answer.frames, answer.diags), (0, 0), "{name}: used lengths of a refusal");
+        assert_eq!((answer.frames, answer.diags, answer.count), (0, 0, 0), "{name}: lengths of a refusal");
     }
+}
+
+/// A work area that holds something.
+fn work_area(text: &[u8], words: usize) -> Vec<u32> {
+    vec![[0xDEAD_BEEF, 0, 1, u32::MAX][text.len() % 4]; words]
+}
+
+/// One measure over a work area that holds something: never 8 or 9, and the work area is zero afterwards.
+pub fn measured(name: &str, text: &[u8], words: usize) -> Answer {
+    let mut work = work_area(text, words);
+    let answer = measure(text, &mut work);
+    assert_answer(name, &answer, 7);
+    assert!(work.iter().all(|&w| w == 0), "{name}: work area after the measure");
+    answer
+}
+
+/// One call over buffers that hold something. What must hold of every call is tested here: every byte past the used parts is as
+/// before, the work area is zero, and the measure says what the writer does.
+pub fn run(name: &str, text: &[u8], words: usize, frames_length: usize, diags_length: usize) -> Run {
+    let mut work = work_area(text, words);
+    let mut frames = filled(frames_length);
+    let mut diags = filled(diags_length);
+    let answer = write(text, &mut work, &mut frames, &mut diags);
+    assert_answer(name, &answer, 9);
     assert_kept(&frames, answer.frames as usize, name, "frames");
     assert_kept(&diags, answer.diags as usize, name, "diagnostics");
     assert!(work.iter().all(|&w| w == 0), "{name}: work area");
+    let needed = measured(name, text, words);
+    match answer.number {
+        8 => assert_eq!((needed.number, needed.frames), (0, answer.place), "{name}: measured frames"),
+        9 => assert_eq!((needed.number, needed.diags), (0, answer.place), "{name}: measured diagnostics"),
+        _ => assert_eq!(needed, answer, "{name}: measured"),
+    }
     frames.truncate(answer.frames as usize);
     diags.truncate(answer.diags as usize);
     Run { answer, frames, diags }
@@ -132,19 +162,13 @@ pub fn words_needed(text: &[u8]) -> usize {
     16 * (starts.count() + 1)
 }
 
-/// The first lengths of buffers that the numbers 2, 8 and 9 ask for, and the call with just these.
+/// The words that a text needs, and the call with buffers of just the lengths that the measure says.
 pub fn settle(name: &str, text: &[u8]) -> (usize, Run) {
     let words = words_needed(text);
-    let (mut frames, mut diags) = (0, 0);
-    for _ in 0..3 {
-        let r = run(name, text, words, frames, diags);
-        match r.answer.number {
-            8 => frames = r.answer.place as usize,
-            9 => diags = r.answer.place as usize,
-            _ => return (words, r),
-        }
-    }
-    panic!("{name}: the lengths asked for are not enough");
+    let needed = measured(name, text, words);
+    let r = run(name, text, words, needed.frames as usize, needed.diags as usize);
+    assert_eq!(needed, r.answer, "{name}: the lengths measured are just enough");
+    (words, r)
 }
 
 /// A generator of random numbers (xorshift), always the same.

@@ -1,4 +1,4 @@
-use Rattle.fold.proofs.Folds.{InvFold, fold-start, can-step, row-room, fold-next, fold-over, fold-end}
+use Rattle.fold.proofs.Folds.{InvFold, fold-start, can-step, can-count, row-room, fold-next, fold-over, fold-end}
 use mathlib.Core.Path.{_∙_}
 use Prim.Native.Nat.{_-_}
 use native.Mathlib.Omega.{arith}
@@ -11,10 +11,10 @@ use Rattle.fold.proofs.all.fold_statement.Reads as fold-statement-reads
 use Rattle.slots.proofs.cells.of_statement.Reads as of-statement-reads
 
 abbrev Inv-loop : tie.InvT-loop
-Inv-loop text work₀ n frames₀ diags₀ rows st₀ at₀ row₀ work frames diags st at row = InvFold text work₀ work frames₀ frames diags₀ diags n rows st at row
+Inv-loop text work₀ n frames₀ diags₀ rows st₀ at₀ count₀ row₀ work frames diags st at count row = InvFold text work₀ work frames₀ frames diags₀ diags n rows st at count row
 
 abbrev μ-loop : tie.MeasureT-loop
-μ-loop text work₀ n frames₀ diags₀ rows st₀ at₀ row₀ work frames diags st at row = rows - row
+μ-loop text work₀ n frames₀ diags₀ rows st₀ at₀ count₀ row₀ work frames diags st at count row = rows - row
 
 loop-holds : tie.Need-loop-holds Inv-loop μ-loop
 loop-holds c = fold-start
@@ -24,6 +24,12 @@ fold-statement-requires c κs = can-step (omega arith) (c .before .before .befor
 
 enum-known-next : tie.Need-enum-known-next Inv-loop μ-loop
 enum-known-next c = search needs
+
+stored-requires : tie.Need-stored-requires Inv-loop μ-loop
+stored-requires c κs = search needs
+
+add-count : tie.Need-add-count Inv-loop μ-loop
+add-count c = omega (arith, can-count (omega arith) (c .before .before .before .before .before .before .before .before .before .before .before .before .before .before .before .loop .inv) (c .before .before .before .before .before .before .before .before .before .before .before .before .before .before .before .before .before .before .before .before .pre) (c .stored .ensures))
 
 enum-told : tie.Need-enum-told Inv-loop μ-loop
 enum-told c = search needs
@@ -44,13 +50,13 @@ returns : tie.Need-returns Inv-loop μ-loop
 returns c = fold-over (omega arith) (c .before .before .before .before .before .before .before .before .before .before .before .before .before .before .before .loop .inv) (c .before .before .before .before .before .before .before .before .before .before .fold-statement .kept .1 .1 .1 .1 .0) (rw (c .before .before .enum-told .given .1) at (c .before .before .before .before .before .before .before .before .before .before .fold-statement .ensures)) (c .of-statement .ensures)
 
 add-row : tie.Need-add-row Inv-loop μ-loop
-add-row c = let b = c .before .before .before .before .before .before .before .before .before .before .before .before .before .before .before .before .before .before .before .pre .holds .checks in omega (arith, b .count, b .named .shape .few, b .room .small)
+add-row c = let b = c .before .before .before .before .before .before .before .before .before .before .before .before .before .before .before .before .before .before .before .before .pre .holds .checks in omega (arith, b .count, b .named .shape .few, b .room .small)
 
 loop-less : tie.Need-loop-less Inv-loop μ-loop
 loop-less c = search needs
 
 loop-again : tie.Need-loop-again Inv-loop μ-loop
-loop-again c = fold-next (omega arith) (c .before .before .before .before .before .before .before .before .before .before .before .before .before .before .loop .inv) (c .before .before .before .before .before .before .before .before .before .fold-statement .kept .1 .1 .1 .1 .0) (rw (c .before .next .given .1) at (c .before .before .before .before .before .before .before .before .before .fold-statement .ensures))
+loop-again c = fold-next (omega arith) (c .before .before .before .before .before .before .before .before .before .before .before .before .before .before .before .loop .inv) (c .before .before .before .before .before .before .before .before .before .before .fold-statement .kept .1 .1 .1 .1 .0) (rw (c .before .before .next .given .1) at (c .before .before .before .before .before .before .before .before .before .before .fold-statement .ensures)) (c .stored .ensures)
 
 same-length-4 : tie.Need-same-length-4 Inv-loop μ-loop
 same-length-4 c = c .before .loop .inv .checks .kept .len
@@ -73,6 +79,8 @@ fold-rows-spec =
     loop-holds
     fold-statement-requires
     enum-known-next
+    stored-requires
+    add-count
     enum-told
     of-statement-requires
     same-length

@@ -4,10 +4,10 @@ use lib.ListN.{replicate}
 use Rattle.fold.proofs.Starts.{read-held}
 use Rattle.catalogue.proofs.Promises.{unread, answered}
 use borrow.Author.Needs.{needs}
-use Rattle.catalogue.proofs.check.Statement.{statement}
-use Rattle.catalogue.proofs.check.Tie as tie
-use Rattle.catalogue.proofs.check.Reads as reads
-use Rattle.catalogue.proofs.check.Lts as lts
+use Rattle.catalogue.proofs.write.Statement.{statement}
+use Rattle.catalogue.proofs.write.Tie as tie
+use Rattle.catalogue.proofs.write.Reads as reads
+use Rattle.catalogue.proofs.write.Lts as lts
 use Rattle.area.proofs.clear.Reads as clear-reads
 use Rattle.catalogue.proofs.streams.answer_read.Reads as answer-read-reads
 use Rattle.reader.proofs.read.Reads as read-reads
@@ -45,8 +45,8 @@ same-length-4 c = search needs
 returns-2 : tie.Need-returns-2
 returns-2 c = answered (c .before .before .before .before .before .before .before .before .before .before .before .before .before .before .before .before .before .before .before .before .before .before .before .before .before .args .work .now) (c .before .before .before .before .before .before .before .before .before .before .before .before .before .before .before .before .before .before .before .read .ensures) (c .before .before .before .before .before .before .before .before .before .before .before .before .before .before .before .rows .given .1) (c .before .before .before .before .before .before .before .before .before .before .answer-read .ensures) (c .before .before .clear .ensures ∙ ap (λ (x : ℕ). replicate x 0) (c .before .before .before .before .before .before .before .before .before .before .answer-read .kept .1 .0 ∙ c .before .before .before .before .before .before .before .before .before .before .before .before .before .before .before .before .before .before .before .read .kept .1 .0))
 
-pub check-spec : {M : Type 1} → statement M
-check-spec =
+pub write-spec : {M : Type 1} → statement M
+write-spec =
     tie.close
     (tie.spec
     read-requires
