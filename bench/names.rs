@@ -1,7 +1,10 @@
 //! `names TEXT ROUNDS` prints the best times in ms of reading, and of reading and naming, over a work area that was touched before.
 
+#[path = "cpu.rs"]
+mod cpu;
+
+use cpu::Instant;
 use std::hint::black_box;
-use std::time::Instant;
 
 extern "C" {
     fn reader_bench_read(text: *const u8, text_length: usize, work: *mut u32, work_length: usize) -> u32;

@@ -1,5 +1,8 @@
 //! read TEXT..: for each file the number that the reader answers, and the best of 21 calls in ms.
-use std::time::Instant;
+#[path = "cpu.rs"]
+mod cpu;
+
+use cpu::Instant;
 
 extern "C" {
     fn reader_bench_read(text: *const u8, length: usize, work: *mut u32, words: usize) -> u32;

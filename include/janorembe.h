@@ -1,6 +1,6 @@
 /* The scope checker as a C library (x86-64 Linux). After `make install`, `pkg-config --cflags --libs janorembe` says how to build with it;
  * without, link target/staticlib/libcapi.a, which `rt staticlib capi` writes. docs/FORMATS.md has every record of both streams to the byte.
- * All functions are total: any bytes and any lengths get an answer. They allocate nothing and keep nothing between
+ * The functions are total: any bytes and any lengths get an answer. They allocate nothing and keep nothing between
  * calls, so threads may call them at the same time over buffers of their own. */
 #ifndef JANOREMBE_H
 #define JANOREMBE_H
@@ -76,6 +76,19 @@ uint32_t janorembe_write(const uint8_t *text, size_t text_length,
 uint32_t janorembe_lookup(const uint8_t *frames, size_t frames_length,
                           const uint8_t *label, size_t label_length,
                           uint64_t *place);
+
+/* What a record of a frame stream holds. Returns 0, or 10 if no well framed record stands at this place.
+ *
+ * frames, frames_length  a frame stream; only read
+ * place                  where the record starts, as look-up answers it; any number
+ * view                   takes six numbers: the kind (1, 2 or 3); where the label starts, from the record's first byte, and its
+ *                        length; V, M and the hypothesis count. UINT64_MAX stands for a number that the record does not
+ *                        hold, as V in a record of kind 1; the place and the length of a label that is not there are 0
+ *
+ * No pointer may be null; view must not overlap frames, and is aligned to 8 bytes. */
+uint32_t janorembe_view(const uint8_t *frames, size_t frames_length,
+                        uint64_t place,
+                        uint64_t view[6]);
 
 #ifdef __cplusplus
 }

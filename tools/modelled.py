@@ -1,15 +1,15 @@
-"""What comes from outside: the model (a program in Python written from document 01 by itself), and the texts of vectors."""
-import importlib.util
+"""What comes from outside: the model (programs in Python written from the order by themselves), and the texts of vectors."""
+import importlib
+import pathlib
 import sys
 
+MODEL = pathlib.Path(__file__).resolve().parent / "model"
 
-def load(path):
-    """The model at this path, as a module."""
-    spec = importlib.util.spec_from_file_location("model", path)
-    module = importlib.util.module_from_spec(spec)
-    sys.modules["model"] = module
-    spec.loader.exec_module(module)
-    return module
+
+def load(name="model"):
+    """The model, or one request on top of it, as a module."""
+    sys.path[:0] = [str(MODEL), str(MODEL / "requests")]
+    return importlib.import_module(name)
 
 
 def texts(paths):

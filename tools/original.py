@@ -1,10 +1,29 @@
 """The published Rust, as its driver shows it, and the operation on a file: what the tools and the benchmark share."""
 
+import os
 import pathlib
 import subprocess
 import sys
 
 ROOT = pathlib.Path(__file__).resolve().parent.parent
+DATABASES = pathlib.Path("/usr/share/metamath/databases")
+
+
+def original():
+    """The path of the published Rust with its driver, built for release from bench/original."""
+    built = {**os.environ, "CARGO_TARGET_DIR": str(ROOT / "target/original"), "RUSTFLAGS": "--cap-lints allow"}
+    done = subprocess.run(["cargo", "build", "--release", "--offline", "--quiet"], cwd=ROOT / "bench/original", env=built)
+    if done.returncode:
+        sys.exit("cargo could not build bench/original")
+    return ROOT / "target/original/release/original"
+
+
+def database(folder, name):
+    """The path of a database in a folder, by default that of the Debian package metamath-databases."""
+    path = pathlib.Path(folder or DATABASES) / f"{name}.mm"
+    if not path.exists():
+        sys.exit(f"{path} is not there: install the Debian package metamath-databases, or name the folder of the .mm files")
+    return path
 
 
 def built():
@@ -23,10 +42,10 @@ def without_nested_c(diags):
     return b"".join(d for d in records if d[4:6] != b"\x0d\x00")
 
 
-def asked(original, folder, text):
+def asked(program, folder, text):
     """The original's two streams for the text in a file, or nothing if it lies outside the domain of equality."""
     frames, diags = folder / "original-frames", folder / "original-diagnostics"
-    done = subprocess.run([original, text, frames, diags], capture_output=True, text=True)
+    done = subprocess.run([program, text, frames, diags], capture_output=True, text=True)
     if done.returncode not in (0, 2):
         sys.exit(f"the original ended with {done.returncode} on the text {pathlib.Path(text).read_bytes().hex()}")
     if done.stderr.split("\n")[-2:] != ["domain yes", ""]:

@@ -1,5 +1,5 @@
 #!/usr/bin/env python3
-"""make.py MODEL VECTORS..: writes `stdin` and `stdout` of this crate from the vectors' texts and hand-made ones.
+"""make.py VECTORS..: writes `stdin` and `stdout` of this crate from the vectors' texts and hand-made ones.
 
 The streams are those of the model (its `check`), a program that was written from document 01 by itself.
 """
@@ -27,8 +27,8 @@ HAND = [
 
 
 def main(argv):
-    model = load(argv[0])
-    given_texts = HAND + [text for text in texts(argv[1:]) if len(text) <= 400]
+    model = load()
+    given_texts = HAND + [text for text in texts(argv) if len(text) <= 400]
     given, right = b"", b""
     for text in given_texts:
         if len(given) + 2 + len(text) > 65000:

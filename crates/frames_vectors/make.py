@@ -1,5 +1,5 @@
 #!/usr/bin/env python3
-"""make.py MODEL VECTORS..: writes `stdin` and `stdout` of this crate from hand-made texts and all the vectors' texts that are read.
+"""make.py VECTORS..: writes `stdin` and `stdout` of this crate from hand-made texts and all the vectors' texts that are read.
 
 The streams are those of the model (its `check`), a program that was written from document 01 by itself.
 """
@@ -41,8 +41,8 @@ HAND = [
 
 
 def main(argv):
-    model = load(argv[0])
-    given_texts = HAND + texts(argv[1:])
+    model = load()
+    given_texts = HAND + texts(argv)
     given, right = b"", b""
     for i, text in enumerate(given_texts):
         number, _, frames, _ = model.check(text, 524288, 2621440, 1 << 40)

@@ -1,5 +1,5 @@
 #!/usr/bin/env python3
-"""make.py MODEL: writes `stdout` of this crate from its `stdin`: the streams of the model (its `check`), a program that was
+"""make.py: writes `stdout` of this crate from its `stdin`: the streams of the model (its `check`), a program that was
 written from document 01 by itself."""
 import os
 import sys
@@ -10,8 +10,8 @@ sys.path.insert(0, os.path.join(HERE, "../../tools"))
 from modelled import load  # noqa: E402
 
 
-def main(path):
-    model = load(path)
+def main():
+    model = load()
     with open(os.path.join(HERE, "stdin"), "rb") as f:
         text = f.read()
     number, place, frames, diags = model.check(text, 16384, 4194304, 36864)
@@ -23,4 +23,4 @@ def main(path):
         f.write(frames + diags)
 
 
-main(sys.argv[1])
+main()

@@ -1,9 +1,10 @@
 # Writes this program's cases, `data/cases`, and what it must write, `stdout`:
-#     python3 make.py MODEL VECTORS
-# MODEL is the folder of model.py, document 01 as a program, which reads every text; VECTORS is a file of lines
+#     python3 make.py VECTORS
+# The model, document 01 as a program, reads every text; VECTORS is a file of lines
 # `name text work-words ..`, of which the short texts are taken.
 import os, struct, sys
-sys.path.insert(0, sys.argv[1])
+sys.dont_write_bytecode = True
+sys.path.insert(0, os.path.join(os.path.dirname(os.path.abspath(__file__)), "../../tools/model"))
 from model import Refusal, first_bad_byte, read, tokens, visible
 
 KINDS = [b"$c", b"$v", b"$d", b"$f", b"$e", b"$a", b"$p"]
@@ -68,7 +69,7 @@ add(b"\x01 x", 16)
 add(b"$c a b", 64 - 1)
 add(b"${ " * 300 + b"$v x $. " + b"$} " * 300)
 add(b"${ $v x $. " * 300 + b"$} " * 299)
-for line in open(sys.argv[2]):
+for line in open(sys.argv[1]):
     word = line.split()
     if word[0] != "#" and word[1] != "-" and len(word[1]) <= 400:
         add(bytes.fromhex(word[1]), min(int(word[2]), MOST - 1))

@@ -1,9 +1,10 @@
 # Writes this program's cases, `stdin`, and the answers that it must write, `stdout`:
-#     python3 make.py MODEL VECTORS
-# MODEL is the folder of model.py, document 01 as a program, whose `check` gives the streams of two texts and whose `lookup` gives every
+#     python3 make.py VECTORS
+# The model is document 01 as a program, whose `check` gives the streams of two texts and whose `lookup` gives every
 # answer; VECTORS is a file of lines `name text work-words frame-bytes diagnostics-bytes number place frames diagnostics`.
 import os, struct, sys
-sys.path.insert(0, sys.argv[1])
+sys.dont_write_bytecode = True
+sys.path.insert(0, os.path.join(os.path.dirname(os.path.abspath(__file__)), "../../tools/model"))
 from model import check, label_of, lookup
 
 WHOLE = b"$c ( ) wff $. $v x $. wx $f wff x $. ax $a wff ( x ) $."
@@ -64,7 +65,7 @@ add(b"", b"ax")
 for text in (WHOLE, ZEROS):
     whole(stream(text))
     damaged(stream(text))
-for line in open(sys.argv[2]):
+for line in open(sys.argv[1]):
     word = line.split()
     if word[0] != "#" and word[7] != "-" and len(word[7]) <= 500:
         whole(bytes.fromhex(word[7]))

@@ -1,4 +1,4 @@
-//! A safe wrapper over the operations of the static library.
+//! A safe wrapper over the functions of the static library.
 //!
 //! The library promises, for every text and every length of the lent buffers: the answer is document 01's; a refusal
 //! leaves both output buffers unchanged; the work area holds only zeros afterwards.
@@ -25,6 +25,16 @@ pub struct Answer {
 pub struct Found {
     pub number: u32,
     pub place: u64,
+}
+
+/// What a record of a frame stream holds; a number that the record does not hold is none.
+#[derive(Clone, Copy, Debug, PartialEq, Eq)]
+pub struct View<'a> {
+    pub kind: u64,
+    pub label: &'a [u8],
+    pub variables: Option<u64>,
+    pub mandatory: Option<u64>,
+    pub hypotheses: Option<u64>,
 }
 
 /// The two streams of a text that is not refused, and the number of frames.
@@ -61,6 +71,7 @@ extern "C" {
         label_length: usize,
         place: *mut u64,
     ) -> u32;
+    fn janorembe_view(frames: *const u8, frames_length: usize, place: u64, view: *mut u64) -> u32;
 }
 
 fn answered(number: u32, words: [u64; 8]) -> Answer {
@@ -105,6 +116,25 @@ pub fn lookup(frames: &[u8], label: &[u8]) -> Found {
     // SAFETY: the library reads the two slices within their lengths, writes `place`, and keeps no pointer.
     let number = unsafe { janorembe_lookup(frames.as_ptr(), frames.len(), label.as_ptr(), label.len(), &mut place) };
     Found { number, place }
+}
+
+/// The record at a place of a frame stream, if a well framed one stands there.
+pub fn view(frames: &[u8], place: u64) -> Option<View<'_>> {
+    let mut view = [0u64; 6];
+    // SAFETY: the library reads the slice within its length, writes the six words of `view`, and keeps no pointer.
+    let number = unsafe { janorembe_view(frames.as_ptr(), frames.len(), place, view.as_mut_ptr()) };
+    if number != 0 {
+        return None;
+    }
+    let start = place as usize + view[1] as usize;
+    let held = |n: u64| (n != u64::MAX).then_some(n);
+    Some(View {
+        kind: view[0],
+        label: &frames[start..start + view[2] as usize],
+        variables: held(view[3]),
+        mandatory: held(view[4]),
+        hypotheses: held(view[5]),
+    })
 }
 
 /// The words of work area that a text needs: 16 for each token, and 16 more.

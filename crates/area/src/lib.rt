@@ -3,9 +3,10 @@
 //
 // | columns | block     | row                       | words of a row                                              |
 // | 0-3     | statement | s-th statement, 12 words  | KIND to DIS below; the word 9 is spare                      |
-// | 4-6     | name      | a-th distinct name        | START, STOP; the word 2 is spare                            |
-// | 7       | bucket    | b-th bucket               | while reading: what the b-th item is                        |
+// | 4-6     | name      | a-th distinct name        | START, STOP; while naming, the word 2 is its left link      |
+// | 7       | bucket    | b-th bucket               | while reading: what the b-th item is; while naming: heads   |
 // | 8-14    | symbol    | a-th distinct name        | OWNER to MARK below; while reading, the ends of open groups |
+// |         |           |                           | while naming, NESTED is its right link                      |
 // | 15      | math      | t-th math token           | its offset after reading, its atom after naming             |
 //
 // A statement has three tokens or more, so the four columns of the first block hold a row of 12 words for each.

@@ -7,6 +7,7 @@ use crate::numbers::tell_written;
 ghost use Rattle.capi.specs.Promise.{Gauged, Written, Looked};
 
 pub mod numbers;
+pub mod view;
 
 /// The number of `catalogue::measure`; place, lengths and number of frames go into `answer`.
 #[no_mangle]

@@ -5,17 +5,18 @@ use mathlib.Core.List.{List, [], _∷_, _++_, map, append-nil}
 use Prim.Native.Nat.{ℕ, _+_, _-_}
 use native.Mathlib.Nat.{le-refl}
 use native.Mathlib.Omega.{arith}
-use lib.ListN.{length, take, drop, replicate, length-append, length-replicate, drop-of-length-le}
+use lib.ListN.{length, take, drop, replicate, length-append, length-replicate}
 use lib.Seq.{drop-at, take-length}
-use Rattle.paper.specs.Tokens.{Token, run, toks, key}
+use Rattle.paper.specs.Tokens.{Token, toks, key}
 use Rattle.paper.specs.Comments.{Place, outside, inside, visible}
 use Rattle.paper.proofs.Tests.{split}
 use Rattle.paper.proofs.Comments.{visible-append}
 use Rattle.token.specs.Words.{tokens-from, move}
 use Rattle.token.specs.declared.cursor.Span.{Span}
-use Rattle.reader.specs.Passed.{Passed, Shows}
-use Rattle.reader.proofs.Passes.{tokens-end, passed-shows}
+use Rattle.token.specs.declared.cursor.Cursor.{Cursor}
+use Rattle.token.proofs.Words.{tokens-end}
 use Rattle.token.proofs.Parts.{tokens-part}
+use Rattle.reader.specs.Passed.{Passed, Shows}
 use Rattle.checks.specs.Visible.{visible-from, First}
 
 -- ---- what a look for the next token passed
@@ -26,10 +27,11 @@ visible-past {q} {i} {e} x =
     ∙ visible-append (x .pre) (tokens-from q e) outside
     ∙ rw (x .shows, x .place)
 
-pub first-of : {q : List ℕ} {i : ℕ} {x : Span} → Shows q i x → First q i (x .start) (x .stop)
+pub first-of : {q : List ℕ} {i : ℕ} {x : Span} {c : Cursor} → Shows q i x c → First q i (x .start) (c .at)
 unfolding visible-from
 first-of h =
-    record { rest = visible-past (passed-shows h); some = h .whole .some; within = h .whole .within }
+    rw (h .stands)
+    (record { rest = rw (h .stands) at (visible-past (h .passed)); some = h .whole .some; within = h .whole .within })
 
 nothing-more : (q : List ℕ) (p : Place) → visible (tokens-from q (length q)) p ≡ []
 unfolding visible
@@ -57,10 +59,6 @@ from-start : (q t : List ℕ) (k : ℕ) → drop k t ≡ q → tokens-from t (k 
 unfolding tokens-from
 from-start q t k d = let z : k + 0 ≡ k = omega arith in rw (z, d)
 
-from-end : (t : List ℕ) → tokens-from t (length t) ≡ []
-unfolding tokens-from toks run
-from-end t = rw (drop-of-length-le t (le-refl (length t)))
-
 -- bytes of which the first has offset k stand in a text after k others
 toks-moved : (q : List ℕ) (k : ℕ) → toks q k ≡ map (move k) (tokens-from q 0)
 toks-moved q k =
@@ -75,7 +73,7 @@ toks-moved q k =
     tokens-part t k (length t) 0 (omega arith) (le-refl _) (λ h. absurd (omega arith)) in
     sym (from-start q t k d)
     ∙ w
-    ∙ ap (λ (l : List Token). map (move k) (tokens-from (take (length t - k) (drop k t)) 0) ++ l) (from-end t)
+    ∙ ap (λ (l : List Token). map (move k) (tokens-from (take (length t - k) (drop k t)) 0) ++ l) (tokens-end t)
     ∙ append-nil (map (move k) (tokens-from (take (length t - k) (drop k t)) 0))
     ∙ ap (λ (l : List ℕ). map (move k) (tokens-from l 0)) i
 

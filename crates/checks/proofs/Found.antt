@@ -21,7 +21,7 @@ use Rattle.reader.specs.Rows.{stmt}
 use Rattle.stream.proofs.Records.{length-u16, length-u32}
 use Rattle.nameck.specs.Lookups.{owner-answer, global-answer}
 use Rattle.nameck.specs.declared.lookup.Global.the-variants as g
-use Rattle.slots.specs.declared.StatementRow.{StatementRow}
+use Rattle.paper.specs.declared.StatementRow.{StatementRow}
 use Rattle.slots.specs.declared.FloatSlot.{FloatSlot}
 use Rattle.slots.specs.declared.FloatSlot.the-variants as floating
 use Rattle.slots.specs.Slots.{nested-at, float-hyp, float-at, checked-of}

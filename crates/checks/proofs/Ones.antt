@@ -23,12 +23,12 @@ use Rattle.nameck.specs.Named.{Named}
 use Rattle.nameck.specs.Lookups.{owner-answer, global-answer, Owned, DeclaredBy}
 use Rattle.nameck.specs.declared.lookup.Owner.{Owner}
 use Rattle.nameck.specs.declared.lookup.Global.{Global}
-use Rattle.stream.specs.Wrote.{Wrote}
+use Rattle.stream.specs.Wrote.{Wrote, WroteOrKept}
 use Rattle.stream.specs.Diagnostic.{diagnostic}
 use Rattle.stream.proofs.Wrote.{wrote-as}
 use Rattle.stream.proofs.Records.{wrote-diag}
 use Rattle.paper.specs.declared.TokenOffset.{TokenOffset}
-use Rattle.slots.specs.declared.StatementRow.{StatementRow}
+use Rattle.paper.specs.declared.StatementRow.{StatementRow}
 use Rattle.slots.specs.declared.FloatSlot.{FloatSlot}
 use Rattle.slots.specs.declared.FloatSlot.the-variants as floating
 use Rattle.slots.specs.declared.MarkSlot.{MarkSlot}
@@ -126,7 +126,7 @@ known-none w x y e = by-kind (global w (y .bytes)) (nested-of x (y .bytes)) e
 
 -- something stands against it
 pub nested-against : {w out out₁ out₂ : List ℕ} {n at p q a o e s i k : ℕ} {r : TokenOffset} → Clashes w out out₁ n at p a s i → Judged w n a o s (verdict-case.Against k r)
-    → (q ≡ p + 18) × Wrote out₁ out₂ p q (diag-record (diagnostic k s i (r .0))) → NestedToken w w out out₂ n at q a o e s i
+    → (q ≡ p + 18) × WroteOrKept out₁ out₂ p q (diag-record (diagnostic k s i (r .0))) → NestedToken w w out out₂ n at q a o e s i
 unfolding records
 nested-against {w} {n = n} {e = e} {s} {i} {k} {r} c j x =
     record {
@@ -138,7 +138,7 @@ nested-against {w} {n = n} {e = e} {s} {i} {k} {r} c j x =
             nests = rw (← d) (rw (append-nil st) f);
             wrote =
                 told-then (clash (owner l (y .bytes)) s i) (verdict-diags (verdict l (keep (active-nested s) st) y) s i) (c .sim y h z)
-                (same-told (wrote-diag k s i (r .0) (x .1)) (ap (λ (b : paper.Verdict). verdict-diags b s i) (sym d)));
+                (same-told (wrote-diag k s i (r .0) (x .1 .wrote)) (ap (λ (b : paper.Verdict). verdict-diags b s i) (sym d)));
           };
     }
 

@@ -2,10 +2,10 @@
 -- Assumes nothing.
 use mathlib.Core.Path.{_≡_, refl, sym, ap, _∙_}
 use mathlib.Core.List.{List, [], _∷_, _++_, map, append-nil, append-assoc}
-use Prim.Native.Nat.{ℕ, zero, suc, _+_, _*_, _<_, _≤_}
+use Prim.Native.Nat.{ℕ, zero, suc, _+_, _-_, _*_, _<_, _≤_}
 use native.Mathlib.Nat.{not-suc-le-zero}
 use native.Mathlib.Omega.{arith}
-use lib.ListN.{length, getD, take, drop, length-drop}
+use lib.ListN.{length, getD, take}
 use Rattle.paper.specs.Base.{gather, keep}
 use Rattle.paper.specs.Tokens.{Token}
 use Rattle.paper.specs.Statements.{Statement}
@@ -22,37 +22,11 @@ use Rattle.slots.specs.Slots.{Nests, Apart}
 use Rattle.slots.proofs.Kept.{kept-none, kept-then}
 use Rattle.checks.specs.Tokens.{Outer, NestedToken}
 use Rattle.checks.specs.Visible.{visible-from, First}
-use Rattle.checks.specs.Walks.{HerePart, WalkOuter, WalkNested}
+use Rattle.checks.specs.Walks.{LastTwo, HerePart, WalkOuter, WalkNested}
 use Rattle.checks.proofs.Told.{told-then, told-none}
 use Rattle.checks.proofs.Ones.{same-told}
-use Rattle.checks.proofs.Each.{each-snoc, firsts-more, firsts-length, drop-first, nested-token, records-snoc, nested-snoc, records-live}
+use Rattle.checks.proofs.Each.{Left, left-start, Taken, take-one, left-none, each-snoc, firsts-more, firsts-length, nested-token, records-snoc, nested-snoc, records-live}
 use Rattle.checks.proofs.OverRows.{here-kept, all-done}
-
--- ---- i tokens are done, and those from the place c on are left
-pub record Left (q : List ℕ) (c i : ℕ) : Type 0 where
-  pub rest : drop i (visible-from q 0) ≡ visible-from q c
-
-pub left-start : (q : List ℕ) → Left q 0 0
-left-start q = record { rest = refl }
-
-pub record Taken (q : List ℕ) (s e i : ℕ) : Type 0 where
-  pub inside : i < length (visible-from q 0)
-  pub is : getD (visible-from q 0) i no-token ≡ token-at q s e
-  pub left : Left q e (i + 1)
-
-pub take-one : {q : List ℕ} {c i s e : ℕ} → Left q c i → First q c s e → Taken q s e i
-take-one {q} {c} {i} {s} {e} h f =
-    let d = drop-first (visible-from q 0) (visible-from q e) (token-at q s e) i (h .rest ∙ f .rest) in
-    record { inside = d .0; is = d .1; left = record { rest = d .2 } }
-
-pub left-less : {q : List ℕ} {c s e : ℕ} → First q c s e → length (visible-from q e) < length (visible-from q c)
-left-less f = omega (arith, ap length (f .rest))
-
-none-left : (m : List Token) (i : ℕ) → drop i m ≡ [] → length m ≤ i
-none-left m i e = omega (arith, length-drop i m, ap length e)
-
-pub left-none : {q : List ℕ} {c i : ℕ} → Left q c i → visible-from q c ≡ [] → length (visible-from q 0) ≤ i
-left-none {q} {c} {i} h e = none-left (visible-from q 0) i (h .rest ∙ e)
 
 -- ---- the math tokens are those of the part, as far on as it starts
 map-at : (b : ℕ) (m : List Token) (i : ℕ) → i < length m → getD (map (move b) m) i no-token ≡ move b (getD m i no-token)
@@ -65,6 +39,19 @@ math-at {q = q} {b = b} {i = i} h x =
     ap (λ (m : List Token). getD m i no-token) (h .math)
     ∙ map-at b (visible-from q 0) i (x .inside)
     ∙ ap (move b) (x .is)
+
+-- ---- `$f`
+pub two-start : {w : List ℕ} {n f a b : ℕ} → LastTwo w n f 0 a b
+two-start = record { typecode = λ h. absurd (omega arith); variable = λ h. absurd (omega arith) }
+
+pub two-more : {w : List ℕ} {n f i a b x : ℕ} → LastTwo w n f i a b → x ≡ word w (math-cell n (f + i)) → LastTwo w n f (i + 1) b x
+two-more {w} {n} {f} {i} h e =
+    let p : i + 1 - 2 ≡ i - 1 = omega arith in
+    let q : i + 1 - 1 ≡ i = omega arith in
+    record { typecode = λ m. rw p (h .variable (omega arith)); variable = λ m. rw q e }
+
+pub two-end : {w : List ℕ} {n f i c a b : ℕ} → c ≤ i → i ≤ c → LastTwo w n f i a b → LastTwo w n f c a b
+two-end {i = i} {c} g k h = let e : c ≡ i = omega arith in rw e h
 
 -- ---- outermost `$c`, `$v`
 pub record InvOuter (w q out₀ out : List ℕ) (n at p f b s c i : ℕ) : Type 0 where

@@ -8,16 +8,16 @@ use Rattle.paper.specs.Base.{gather}
 use Rattle.paper.specs.Checks.{Diag, diag}
 use Rattle.paper.specs.Records.{diag-record}
 use Rattle.paper.proofs.Lists.{gather-append}
-use Rattle.stream.specs.Wrote.{Wrote}
+use Rattle.stream.specs.Wrote.{Wrote, WroteOrKept}
 use Rattle.stream.specs.Diagnostic.{diagnostic}
 use Rattle.stream.proofs.Wrote.{wrote-none, wrote-then, wrote-as}
 use Rattle.stream.proofs.Records.{wrote-diag}
 
 pub told :
     {out out′ : List ℕ} {at q : ℕ} {d : List Diag} (k s i o : ℕ)
-    → (q ≡ at + 18) × Wrote out out′ at q (diag-record (diagnostic k s i o)) → d ≡ diag k s i o
+    → (q ≡ at + 18) × WroteOrKept out out′ at q (diag-record (diagnostic k s i o)) → d ≡ diag k s i o
     → (q ≤ at + 18) × Wrote out out′ at q (gather diag-record d)
-told k s i o w e = (omega (arith, w .0), wrote-as (wrote-diag k s i o (w .1)) (ap (gather diag-record) e))
+told k s i o w e = (omega (arith, w .0), wrote-as (wrote-diag k s i o (w .1 .wrote)) (ap (gather diag-record) e))
 
 pub silent : {out : List ℕ} {at : ℕ} {d : List Diag} → d ≡ [] → (at ≤ at + 18) × Wrote out out at at (gather diag-record d)
 unfolding gather

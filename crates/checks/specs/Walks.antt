@@ -2,7 +2,7 @@
 -- `f` is the row of the first token in the math column, `c` the number of tokens, `s` the statement's offset, `k` its row.
 use mathlib.Core.Path.{_≡_}
 use mathlib.Core.List.{List, [], _++_, map}
-use Prim.Native.Nat.{ℕ, _+_, _*_, _<_, _≤_, _^_}
+use Prim.Native.Nat.{ℕ, _+_, _-_, _*_, _<_, _≤_, _^_}
 use lib.ListN.{length}
 use Rattle.paper.specs.Base.{gather, keep}
 use Rattle.paper.specs.Statements.{Statement}
@@ -68,6 +68,11 @@ pub record CheckedDv (w v out out′ : List ℕ) (n at q f c s : ℕ) : Type 0 w
       {t : List ℕ} {l : List Statement} (x : State) (k : ℕ) → Here t w n l k f c s → declarations (stmt l k) ≡ [] → Apart l
       → Nests w n l (x .nested) s → Marks w n l []
       → Marks v n l [] × Wrote out out′ at q (gather diag-record (check-disjoint l (view x s) (stmt l k)))
+
+-- ---- `$f`: the last two of c tokens
+pub record LastTwo (w : List ℕ) (n f c a b : ℕ) : Type 0 where
+  pub typecode : 2 ≤ c → a ≡ word w (math-cell n (f + (c - 2)))
+  pub variable : 1 ≤ c → b ≡ word w (math-cell n (f + (c - 1)))
 
 -- ---- over the part q of the text, which starts at offset b: its tokens outside comments are the math tokens
 pub record WalkPart (w q : List ℕ) (n at f b : ℕ) : Type 0 where

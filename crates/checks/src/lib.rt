@@ -1,5 +1,6 @@
 // The checks of one statement's tokens: what each token gets, and the walks over the tokens of each kind of statement.
 // Every diagnostic goes through `stream::record::put_diag`; what was found decides which.
+use paper::Atom;
 use paper::StatementOffset;
 use paper::TokenOffset;
 
@@ -17,4 +18,10 @@ pub enum Verdict {
 pub enum Earlier {
     At(StatementOffset),
     Nothing,
+}
+
+/// The two tokens of a `$f`.
+pub struct FloatTokens {
+    pub typecode: Atom,
+    pub variable: Atom,
 }

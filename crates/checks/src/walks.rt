@@ -1,5 +1,6 @@
 // The walks over the math tokens of a statement, one for each kind of check.
-// Those that need offsets go over the statement's part of the text by the cursor, the others over the atoms of its rows.
+// Each goes over the statement's part of the text by the cursor, and takes the atom of a token from the math column.
+use crate::FloatTokens;
 use crate::tokens::check_dv_token;
 use crate::tokens::check_eap_token;
 use crate::tokens::check_nested;
@@ -13,57 +14,79 @@ use reader::comment::next_visible;
 use slots::cells::of_math;
 use slots::mark::forget_dv;
 use token::class::table;
-ghost use Prim.Native.Nat.{_+_, _<_};
-ghost use Rattle.checks.specs.Walks.{Walk, HasFloats, WalkEap, WalkDv, CheckedDv, WalkPart, WalkOuter, WalkNested};
+use token::cursor::Cursor;
+ghost use mathlib.Core.Path.{_≡_};
+ghost use Prim.Native.Nat.{_+_, _≤_};
+ghost use lib.ListN.{length};
+ghost use Rattle.slots.specs.Kept.{Room};
+ghost use Rattle.checks.specs.Visible.{visible-from};
+ghost use Rattle.checks.specs.Walks.{Walk, HasFloats, WalkEap, WalkDv, CheckedDv, LastTwo, WalkPart, WalkOuter, WalkNested};
 
-/// The tokens of a `$e`, `$a` or `$p`.
+/// The tokens of a `$e`, `$a` or `$p`, whose math string is `part`.
 pub fn check_eap(
+    part: &[u8],
     work: &[u32],
     n: usize,
     diags: &mut [u8],
     at: usize,
     first: usize,
-    count: usize,
     s: StatementOffset,
 ) -> usize
-    requires { ⌜ Walk (now work) n at first count × HasFloats (now work) n first count ⌝ }
-    ensures { λ r. ⌜ WalkEap (now (work .entry)) (now (diags .entry)) (now (diags .exit)) n at r first count (s .0) ⌝ }
+    requires { ⌜ Walk (now work) n at first (length (visible-from (now part) 0)) × HasFloats (now work) n first (length (visible-from (now part) 0)) ⌝ }
+    ensures { λ r. ⌜ WalkEap (now (work .entry)) (now (diags .entry)) (now (diags .exit)) n at r first (length (visible-from (now (part .entry)) 0)) (s .0) ⌝ }
 {
+    let classes = table();
     let mut p = at;
     let mut i = 0;
-    while i < count {
-        let atom = Atom(of_math(work, n, first + i));
-        p = check_eap_token(work, n, diags, p, atom, s, TokenIndex(i as u32));
-        i += 1;
+    let mut c = Cursor { at: 0 };
+    loop {
+        match next_visible(&classes, part, c) {
+            Visible::Token(_, d) => {
+                let atom = Atom(of_math(work, n, first + i));
+                p = check_eap_token(work, n, diags, p, atom, s, TokenIndex(i as u32));
+                i += 1;
+                c = d;
+            }
+            Visible::Open(_) => return p,
+            Visible::End => return p,
+        }
     }
-    p
 }
 
-/// The tokens of a `$d`, each of which may get a mark.
+/// The tokens of a `$d`, whose math string is `part`; each may get a mark.
 pub fn walk_dv(
+    part: &[u8],
     work: &mut [u32],
     n: usize,
     diags: &mut [u8],
     at: usize,
     first: usize,
-    count: usize,
     s: StatementOffset,
 ) -> usize
-    requires { ⌜ Walk (now work) n at first count ⌝ }
-    ensures { λ r. ⌜ WalkDv (now (work .entry)) (now (work .exit)) (now (diags .entry)) (now (diags .exit)) n at r first count (s .0) ⌝ }
+    requires { ⌜ Walk (now work) n at first (length (visible-from (now part) 0)) ⌝ }
+    ensures { λ r. ⌜ WalkDv (now (work .entry)) (now (work .exit)) (now (diags .entry)) (now (diags .exit)) n at r first (length (visible-from (now (part .entry)) 0)) (s .0) ⌝ }
 {
+    let classes = table();
     let mut p = at;
     let mut i = 0;
-    while i < count {
-        let atom = Atom(of_math(work, n, first + i));
-        p = check_dv_token(work, n, diags, p, atom, s, TokenIndex(i as u32));
-        i += 1;
+    let mut c = Cursor { at: 0 };
+    loop {
+        match next_visible(&classes, part, c) {
+            Visible::Token(_, d) => {
+                let atom = Atom(of_math(work, n, first + i));
+                p = check_dv_token(work, n, diags, p, atom, s, TokenIndex(i as u32));
+                i += 1;
+                c = d;
+            }
+            Visible::Open(_) => return p,
+            Visible::End => return p,
+        }
     }
-    p
 }
 
-/// The tokens of a `$d`; no mark is left.
+/// The `count` tokens of a `$d`, whose math string is `part`; no mark is left.
 pub fn check_dv(
+    part: &[u8],
     work: &mut [u32],
     n: usize,
     diags: &mut [u8],
@@ -72,12 +95,46 @@ pub fn check_dv(
     count: usize,
     s: StatementOffset,
 ) -> usize
-    requires { ⌜ Walk (now work) n at first count ⌝ }
+    requires { ⌜ Walk (now work) n at first count × (length (visible-from (now part) 0) ≡ count) ⌝ }
     ensures { λ r. ⌜ CheckedDv (now (work .entry)) (now (work .exit)) (now (diags .entry)) (now (diags .exit)) n at r first count (s .0) ⌝ }
 {
-    let p = walk_dv(work, n, diags, at, first, count, s);
+    let p = walk_dv(part, work, n, diags, at, first, s);
     forget_dv(work, n, first, count);
     p
+}
+
+/// The atoms of the last two tokens of `part`, the math string of a `$f`, which has just two.
+pub fn float_tokens(part: &[u8], work: &[u32], n: usize, first: usize) -> FloatTokens
+    requires { ⌜ Room (now work) n × (first + length (visible-from (now part) 0) ≤ n) ⌝ }
+    ensures { λ r. ⌜ LastTwo (now (work .entry)) n first (length (visible-from (now (part .entry)) 0)) (r .typecode .0) (r .variable .0) ⌝ }
+{
+    let classes = table();
+    let mut typecode: u32 = 0;
+    let mut variable: u32 = 0;
+    let mut i = 0;
+    let mut c = Cursor { at: 0 };
+    loop {
+        match next_visible(&classes, part, c) {
+            Visible::Token(_, d) => {
+                typecode = variable;
+                variable = of_math(work, n, first + i);
+                i += 1;
+                c = d;
+            }
+            Visible::Open(_) => {
+                return FloatTokens {
+                    typecode: Atom(typecode),
+                    variable: Atom(variable),
+                };
+            }
+            Visible::End => {
+                return FloatTokens {
+                    typecode: Atom(typecode),
+                    variable: Atom(variable),
+                };
+            }
+        }
+    }
 }
 
 /// The tokens of an outermost `$c` or `$v`, whose math string is `part`.
@@ -97,15 +154,15 @@ pub fn walk_outer(
     let classes = table();
     let mut p = at;
     let mut i = 0;
-    let mut c = 0;
+    let mut c = Cursor { at: 0 };
     loop {
         match next_visible(&classes, part, c) {
-            Visible::Token(x) => {
+            Visible::Token(x, d) => {
                 let atom = Atom(of_math(work, n, first + i));
                 let offset = TokenOffset(from + x.start as u32);
                 p = check_outer(work, n, diags, p, atom, offset, s, TokenIndex(i as u32));
                 i += 1;
-                c = x.stop;
+                c = d;
             }
             Visible::Open(_) => return p,
             Visible::End => return p,
@@ -131,16 +188,16 @@ pub fn walk_nested(
     let classes = table();
     let mut p = at;
     let mut i = 0;
-    let mut c = 0;
+    let mut c = Cursor { at: 0 };
     loop {
         match next_visible(&classes, part, c) {
-            Visible::Token(x) => {
+            Visible::Token(x, d) => {
                 let atom = Atom(of_math(work, n, first + i));
                 let offset = TokenOffset(from + x.start as u32);
                 let index = TokenIndex(i as u32);
                 p = check_nested(work, n, diags, p, atom, offset, end, s, index);
                 i += 1;
-                c = x.stop;
+                c = d;
             }
             Visible::Open(_) => return p,
             Visible::End => return p,

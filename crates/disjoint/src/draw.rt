@@ -1,6 +1,10 @@
 // Pairs and rows drawn into the buffer: the rows tell which pairs were found, so that each mandatory pair is written once,
 // in the order and the orientation in which it is found.
 use crate::tally;
+use paper::StatementRow;
+use paper::TokenIndex;
+use paper::TokenRow;
+use paper::VariableNumber;
 use slots::cells;
 ghost use mathlib.Core.List.{[], _∷_};
 ghost use Rattle.paper.specs.Pairs.{pair, pairs-in};
@@ -16,24 +20,26 @@ pub struct Grid {
 }
 
 /// Sets the bits of two variables, and stores their pair if they were not set and both are mandatory.
-pub fn put_pair(buf: &mut [u8], at: usize, g: Grid, x: usize, y: usize) -> usize
-    requires { ⌜ CanDraw (now buf) g at (pair x y ∷ []) ⌝ }
-    ensures { λ r. ⌜ Drew (now (buf .entry)) (now (buf .exit)) g at r (pair x y ∷ []) [] ⌝ }
+pub fn put_pair(buf: &mut [u8], at: usize, g: Grid, x: VariableNumber, y: VariableNumber) -> usize
+    requires { ⌜ CanDraw (now buf) g at (pair (x .0) (y .0) ∷ []) ⌝ }
+    ensures { λ r. ⌜ Drew (now (buf .entry)) (now (buf .exit)) g at r (pair (x .0) (y .0) ∷ []) [] ⌝ }
 {
-    let line = g.at + x * g.width;
-    if stream::bits::bit_at(buf, line, y) {
+    let i = x.0 as usize;
+    let j = y.0 as usize;
+    let line = g.at + i * g.width;
+    if stream::bits::bit_at(buf, line, j) {
         return at;
     }
-    stream::bits::set_bit(buf, line, y);
-    stream::bits::set_bit(buf, g.at + y * g.width, x);
-    if g.mandatory <= x {
+    stream::bits::set_bit(buf, line, j);
+    stream::bits::set_bit(buf, g.at + j * g.width, i);
+    if g.mandatory <= i {
         return at;
     }
-    if g.mandatory <= y {
+    if g.mandatory <= j {
         return at;
     }
-    let a = stream::write::put_u16(buf, at, x as u64);
-    stream::write::put_u16(buf, a, y as u64)
+    let a = stream::write::put_u16(buf, at, i as u64);
+    stream::write::put_u16(buf, a, j as u64)
 }
 
 /// The pairs of the i-th token of a `$d` with those right of it.
@@ -43,19 +49,21 @@ pub fn put_pairs_at(
     buf: &mut [u8],
     at: usize,
     g: Grid,
-    row: usize,
-    i: usize,
+    row: StatementRow,
+    i: TokenIndex,
 ) -> usize
-    requires { ⌜ CanDrawAt (now work) (now buf) n row i g at ⌝ }
-    ensures { λ r. ⌜ Drew (now (buf .entry)) (now (buf .exit)) g at r (pairs-at (numbers (now (work .entry)) n row) i) [] ⌝ }
+    requires { ⌜ CanDrawAt (now work) (now buf) n (row .0) (i .0) g at ⌝ }
+    ensures { λ r. ⌜ Drew (now (buf .entry)) (now (buf .exit)) g at r (pairs-at (numbers (now (work .entry)) n (row .0)) (i .0)) [] ⌝ }
 {
-    let first = cells::of_statement(work, n, row, area::FIRST) as usize;
-    let count = cells::of_statement(work, n, row, area::COUNT) as usize;
-    let x = tally::number(work, n, first + i);
+    let line = row.0 as usize;
+    let k = i.0 as usize;
+    let first = cells::of_statement(work, n, line, area::FIRST) as usize;
+    let count = cells::of_statement(work, n, line, area::COUNT) as usize;
+    let x = tally::number(work, n, TokenRow((first + k) as u32));
     let mut a = at;
-    let mut j = i + 1;
+    let mut j = k + 1;
     while j < count {
-        let y = tally::number(work, n, first + j);
+        let y = tally::number(work, n, TokenRow((first + j) as u32));
         a = put_pair(buf, a, g, x, y);
         j += 1;
     }
@@ -63,15 +71,22 @@ pub fn put_pairs_at(
 }
 
 /// The pairs of one `$d`.
-pub fn put_pairs_of(work: &[u32], n: usize, buf: &mut [u8], at: usize, g: Grid, row: usize) -> usize
-    requires { ⌜ CanDrawRow (now work) (now buf) n row g at ⌝ }
-    ensures { λ r. ⌜ Drew (now (buf .entry)) (now (buf .exit)) g at r (pairs-in (numbers (now (work .entry)) n row)) [] ⌝ }
+pub fn put_pairs_of(
+    work: &[u32],
+    n: usize,
+    buf: &mut [u8],
+    at: usize,
+    g: Grid,
+    row: StatementRow,
+) -> usize
+    requires { ⌜ CanDrawRow (now work) (now buf) n (row .0) g at ⌝ }
+    ensures { λ r. ⌜ Drew (now (buf .entry)) (now (buf .exit)) g at r (pairs-in (numbers (now (work .entry)) n (row .0))) [] ⌝ }
 {
-    let count = cells::of_statement(work, n, row, area::COUNT) as usize;
+    let count = cells::of_statement(work, n, row.0 as usize, area::COUNT) as usize;
     let mut a = at;
     let mut i: usize = 0;
     while i < count {
-        a = put_pairs_at(work, n, buf, a, g, row, i);
+        a = put_pairs_at(work, n, buf, a, g, row, TokenIndex(i as u32));
         i += 1;
     }
     a
@@ -85,7 +100,7 @@ pub fn put_pairs(work: &[u32], n: usize, buf: &mut [u8], at: usize, g: Grid, ds:
     let mut a = at;
     let mut k: usize = 0;
     while k < ds {
-        let row = cells::of_statement(work, n, k, area::DIS) as usize;
+        let row = StatementRow(cells::of_statement(work, n, k, area::DIS));
         a = put_pairs_of(work, n, buf, a, g, row);
         k += 1;
     }

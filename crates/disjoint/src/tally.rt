@@ -1,5 +1,9 @@
 // Mandatory pairs counted: in the turn of each mandatory variable, the mandatory ones of a higher number that an active
 // `$d` names with it are marked in the work area. The marks are taken away in the end.
+use paper::Atom;
+use paper::StatementRow;
+use paper::TokenRow;
+use paper::VariableNumber;
 use slots::cells;
 ghost use mathlib.Core.Path.{_≡_};
 ghost use Prim.Native.Nat.{_+_, _-_, _<_};
@@ -11,24 +15,26 @@ ghost use Rattle.slots.specs.Kept.{Room};
 ghost use Rattle.paper.specs.Pairs.{pairs-in};
 
 /// The number of the variable that is a math token of the text.
-pub fn number(work: &[u32], n: usize, t: usize) -> usize
-    requires { ⌜ Room (now work) n × TokenNumbered (now work) n t ⌝ }
-    ensures { λ r. ⌜ r ≡ number-at (now (work .entry)) n t - 1 ⌝ }
+pub fn number(work: &[u32], n: usize, t: TokenRow) -> VariableNumber
+    requires { ⌜ Room (now work) n × TokenNumbered (now work) n (t .0) ⌝ }
+    ensures { λ r. ⌜ r .0 ≡ number-at (now (work .entry)) n (t .0) - 1 ⌝ }
 {
-    let atom = cells::of_math(work, n, t) as usize;
-    cells::of_symbol(work, n, atom, area::NUMBER) as usize - 1
+    let atom = cells::of_math(work, n, t.0 as usize) as usize;
+    VariableNumber(cells::of_symbol(work, n, atom, area::NUMBER) - 1)
 }
 
 /// Whether a `$d` names variable u.
-pub fn names_number(work: &[u32], n: usize, m: usize, row: usize, u: usize) -> bool
-    requires { ⌜ CanWalk (now work) n m row ⌝ }
-    ensures { λ r. ⌜ r ≡ has u (numbers (now (work .entry)) n row) ⌝ }
+pub fn names_number(work: &[u32], n: usize, m: usize, row: StatementRow, u: VariableNumber) -> bool
+    requires { ⌜ CanWalk (now work) n m (row .0) ⌝ }
+    ensures { λ r. ⌜ r ≡ has (u .0) (numbers (now (work .entry)) n (row .0)) ⌝ }
 {
-    let first = cells::of_statement(work, n, row, area::FIRST) as usize;
-    let count = cells::of_statement(work, n, row, area::COUNT) as usize;
+    let line = row.0 as usize;
+    let first = cells::of_statement(work, n, line, area::FIRST) as usize;
+    let count = cells::of_statement(work, n, line, area::COUNT) as usize;
     let mut i: usize = 0;
     while i < count {
-        if number(work, n, first + i) == u {
+        let v = number(work, n, TokenRow((first + i) as u32));
+        if v.0 == u.0 {
             return true;
         }
         i += 1;
@@ -37,45 +43,59 @@ pub fn names_number(work: &[u32], n: usize, m: usize, row: usize, u: usize) -> b
 }
 
 /// Marks a math token with u + 1 if it is a mandatory variable whose number is above u: 1 if it was not marked so, else 0.
-pub fn mark_one(work: &mut [u32], n: usize, m: usize, t: usize, u: usize) -> usize
-    requires { ⌜ CanMark (now work) n m t u ⌝ }
-    ensures { λ r. ⌜ MarksOne (now (work .entry)) (now (work .exit)) n m t u r ⌝ }
+pub fn mark_one(work: &mut [u32], n: usize, m: usize, t: TokenRow, u: VariableNumber) -> usize
+    requires { ⌜ CanMark (now work) n m (t .0) (u .0) ⌝ }
+    ensures { λ r. ⌜ MarksOne (now (work .entry)) (now (work .exit)) n m (t .0) (u .0) r ⌝ }
 {
-    let atom = cells::of_math(work, n, t) as usize;
+    let v = u.0 as usize;
+    let atom = cells::of_math(work, n, t.0 as usize) as usize;
     let k = cells::of_symbol(work, n, atom, area::NUMBER) as usize;
-    if k <= u + 1 {
+    if k <= v + 1 {
         return 0;
     }
     if m < k {
         return 0;
     }
-    if cells::of_symbol(work, n, atom, area::MARK) as usize == u + 1 {
+    if cells::of_symbol(work, n, atom, area::MARK) as usize == v + 1 {
         return 0;
     }
-    cells::put_symbol(work, n, atom, area::MARK, (u + 1) as u32);
+    cells::put_symbol(work, n, atom, area::MARK, (v + 1) as u32);
     1
 }
 
 /// Marks so the tokens of a `$d`: how many were not marked so.
-pub fn mark_above(work: &mut [u32], n: usize, m: usize, row: usize, u: usize) -> usize
-    requires { ⌜ CanMarkRow (now work) n m row u ⌝ }
-    ensures { λ r. ⌜ Marks (now (work .entry)) (now (work .exit)) n m u (above (numbers (now (work .entry)) n row) u) r ⌝ }
+pub fn mark_above(
+    work: &mut [u32],
+    n: usize,
+    m: usize,
+    row: StatementRow,
+    u: VariableNumber,
+) -> usize
+    requires { ⌜ CanMarkRow (now work) n m (row .0) (u .0) ⌝ }
+    ensures { λ r. ⌜ Marks (now (work .entry)) (now (work .exit)) n m (u .0) (above (numbers (now (work .entry)) n (row .0)) (u .0)) r ⌝ }
 {
-    let first = cells::of_statement(work, n, row, area::FIRST) as usize;
-    let count = cells::of_statement(work, n, row, area::COUNT) as usize;
+    let line = row.0 as usize;
+    let first = cells::of_statement(work, n, line, area::FIRST) as usize;
+    let count = cells::of_statement(work, n, line, area::COUNT) as usize;
     let mut sum: usize = 0;
     let mut i: usize = 0;
     while i < count {
-        sum += mark_one(work, n, m, first + i, u);
+        sum += mark_one(work, n, m, TokenRow((first + i) as u32), u);
         i += 1;
     }
     sum
 }
 
 /// How many mandatory variables that a `$d` with variable u names were not marked so.
-pub fn mark_with(work: &mut [u32], n: usize, m: usize, row: usize, u: usize) -> usize
-    requires { ⌜ CanMarkRow (now work) n m row u ⌝ }
-    ensures { λ r. ⌜ Marks (now (work .entry)) (now (work .exit)) n m u (rising (pairs-in (numbers (now (work .entry)) n row)) u) r ⌝ }
+pub fn mark_with(
+    work: &mut [u32],
+    n: usize,
+    m: usize,
+    row: StatementRow,
+    u: VariableNumber,
+) -> usize
+    requires { ⌜ CanMarkRow (now work) n m (row .0) (u .0) ⌝ }
+    ensures { λ r. ⌜ Marks (now (work .entry)) (now (work .exit)) n m (u .0) (rising (pairs-in (numbers (now (work .entry)) n (row .0))) (u .0)) r ⌝ }
 {
     if names_number(work, n, m, row, u) {
         return mark_above(work, n, m, row, u);
@@ -84,14 +104,14 @@ pub fn mark_with(work: &mut [u32], n: usize, m: usize, row: usize, u: usize) -> 
 }
 
 /// How many mandatory variables numbered above u the active `$d` name with variable u.
-pub fn count_pairs_of(work: &mut [u32], n: usize, m: usize, ds: usize, u: usize) -> usize
-    requires { ⌜ CanCountOf (now work) n m ds u ⌝ }
-    ensures { λ r. ⌜ CountsOf (now (work .entry)) (now (work .exit)) n m ds u r ⌝ }
+pub fn count_pairs_of(work: &mut [u32], n: usize, m: usize, ds: usize, u: VariableNumber) -> usize
+    requires { ⌜ CanCountOf (now work) n m ds (u .0) ⌝ }
+    ensures { λ r. ⌜ CountsOf (now (work .entry)) (now (work .exit)) n m ds (u .0) r ⌝ }
 {
     let mut sum: usize = 0;
     let mut k: usize = 0;
     while k < ds {
-        let row = cells::of_statement(work, n, k, area::DIS) as usize;
+        let row = StatementRow(cells::of_statement(work, n, k, area::DIS));
         sum += mark_with(work, n, m, row, u);
         k += 1;
     }
@@ -106,18 +126,18 @@ pub fn count_pairs(work: &mut [u32], n: usize, m: usize, ds: usize) -> usize
     let mut sum: usize = 0;
     let mut u: usize = 0;
     while u < m {
-        sum += count_pairs_of(work, n, m, ds, u);
+        sum += count_pairs_of(work, n, m, ds, VariableNumber(u as u32));
         u += 1;
     }
     sum
 }
 
 /// The atom of variable k.
-pub fn atom_of(work: &[u32], n: usize, k: usize) -> u32
-    requires { ⌜ Room (now work) n × (k < n) ⌝ }
-    ensures { λ r. ⌜ r ≡ word (now (work .entry)) (bucket-cell n k) ⌝ }
+pub fn atom_of(work: &[u32], n: usize, k: VariableNumber) -> Atom
+    requires { ⌜ Room (now work) n × (k .0 < n) ⌝ }
+    ensures { λ r. ⌜ r .0 ≡ word (now (work .entry)) (bucket-cell n (k .0)) ⌝ }
 {
-    work[area::bucket(n, k)]
+    Atom(work[area::bucket(n, k.0 as usize)])
 }
 
 /// Takes the marks of the mandatory variables away.
@@ -127,8 +147,8 @@ pub fn clear_marks(work: &mut [u32], n: usize, m: usize)
 {
     let mut k: usize = 0;
     while k < m {
-        let atom = atom_of(work, n, k) as usize;
-        cells::put_symbol(work, n, atom, area::MARK, 0);
+        let atom = atom_of(work, n, VariableNumber(k as u32));
+        cells::put_symbol(work, n, atom.0 as usize, area::MARK, 0);
         k += 1;
     }
 }

@@ -11,7 +11,7 @@ use Rattle.paper.specs.Reader.{Outcome, refused, given, reading}
 use Rattle.paper.specs.declared.Reading.{Reading}
 use Rattle.paper.specs.declared.Reading.the-variants as reading
 use Rattle.reader.specs.Whole.{Answers, Reads}
-use Rattle.reader.proofs.Grammar.{few-tokens}
+use Rattle.token.proofs.Counts.{few-tokens}
 use Rattle.facts.specs.Facts.{Facts}
 use Rattle.facts.proofs.Read.{facts}
 use Rattle.nameck.specs.Naming.{Readable, SomeRead, AllNamed}

@@ -3,6 +3,7 @@
 use crate::turn::frame_statement;
 use frames::assert::Built;
 use paper::StatementOffset;
+use paper::StatementRow;
 use scopeck::Scope;
 use scopeck::statements::check_statement;
 use scopeck::statements::forget_all;
@@ -31,12 +32,12 @@ pub fn fold_statement(
     diags: &mut [u8],
     st: Scope,
     at: usize,
-    row: usize,
+    row: StatementRow,
 ) -> Step
-    requires { ⌜ SomeBefore (now text) (now work) n st row × (at < 2 ^ 56) ⌝ }
-    ensures { λ r. ⌜ Stepped (now (text .entry)) (now (work .entry)) (now (work .exit)) (now (frames .entry)) (now (frames .exit)) (now (diags .entry)) (now (diags .exit)) n st at row r ⌝ }
+    requires { ⌜ SomeBefore (now text) (now work) n st (row .0) × (at < 2 ^ 56) ⌝ }
+    ensures { λ r. ⌜ Stepped (now (text .entry)) (now (work .entry)) (now (work .exit)) (now (frames .entry)) (now (frames .exit)) (now (diags .entry)) (now (diags .exit)) n st at (row .0) r ⌝ }
 {
-    let next = check_statement(text, work, n, diags, st, row);
+    let next = check_statement(text, work, n, diags, st, row.0 as usize);
     match frame_statement(text, work, n, frames, at, next, row) {
         Built::After(after) => Step::Next(next, after),
         Built::TooMany => Step::Over,
@@ -74,7 +75,16 @@ pub fn fold_rows(
     let mut count = 0;
     let mut row = 0;
     while row < rows {
-        match fold_statement(text, work, n, frames, diags, st, at, row) {
+        match fold_statement(
+            text,
+            work,
+            n,
+            frames,
+            diags,
+            st,
+            at,
+            StatementRow(row as u32),
+        ) {
             Step::Next(next, after) => {
                 count += stored(at, after);
                 st = next;

@@ -3,6 +3,7 @@
 use frames::assert::Built;
 use frames::assert::construct_full_frame;
 use frames::stub::construct_stub_frame;
+use paper::StatementRow;
 use scopeck::Scope;
 use slots::cells::of_statement;
 ghost use Prim.Native.Nat.{_<_, _^_};
@@ -16,15 +17,16 @@ pub fn frame_statement(
     frames: &mut [u8],
     at: usize,
     st: Scope,
-    row: usize,
+    row: StatementRow,
 ) -> Built
-    requires { ⌜ SomeTurn (now text) (now work) n st row × (at < 2 ^ 56) ⌝ }
-    ensures { λ r. ⌜ Turned (now (text .entry)) (now (work .entry)) (now (work .exit)) n st row (now (frames .entry)) (now (frames .exit)) at r ⌝ }
+    requires { ⌜ SomeTurn (now text) (now work) n st (row .0) × (at < 2 ^ 56) ⌝ }
+    ensures { λ r. ⌜ Turned (now (text .entry)) (now (work .entry)) (now (work .exit)) n st (row .0) (now (frames .entry)) (now (frames .exit)) at r ⌝ }
 {
-    if of_statement(work, n, row, area::ACCEPTED) == 0 {
+    let line = row.0 as usize;
+    if of_statement(work, n, line, area::ACCEPTED) == 0 {
         return Built::After(at);
     }
-    let kind = of_statement(work, n, row, area::KIND);
+    let kind = of_statement(work, n, line, area::KIND);
     if kind == 4 {
         return Built::After(construct_stub_frame(text, work, n, frames, at, row));
     }

@@ -12,3 +12,4 @@ pub mod Floats
 pub mod FloatWalk
 pub mod StackRows
 pub mod HypWalk
+pub mod HypNext

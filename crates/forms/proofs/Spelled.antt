@@ -4,7 +4,6 @@ use mathlib.Core.Path.{_≡_, refl, sym, ap, _∙_}
 use mathlib.Core.Bool.{true, false}
 use mathlib.Core.List.{List, _++_}
 use Prim.Native.Nat.{ℕ, zero, suc, _+_, _-_, _*_, _<_, _≤_}
-use native.Mathlib.Nat.{add-zero}
 use native.Mathlib.Omega.{arith}
 use lib.Dec.{eqb}
 use lib.ListN.{length}
@@ -17,17 +16,17 @@ use Rattle.paper.specs.Records.{u32, string, expression-bytes}
 use Rattle.paper.specs.Checks.{token}
 use Rattle.paper.proofs.Tests.{split, clash}
 use Rattle.paper.proofs.Names.{grown-member}
-use Rattle.area.specs.Cells.{statement-cell, symbol-cell, math-cell, word}
+use Rattle.area.specs.Cells.{statement-cell, symbol-cell, word}
 use Rattle.stream.specs.Wrote.{Wrote}
 use Rattle.stream.proofs.Wrote.{wrote-then, wrote-as}
 use Rattle.reader.specs.Rows.{stmt}
 use Rattle.sight.specs.Static.{constant-name, static}
 use Rattle.sight.proofs.Sums.{sum-same}
-use Rattle.forms.specs.Words.{name-bytes, atom-at, word-symbol, body-of, count-of, sizes-to, variable-size, variables-to, starts, piece-by, pieces, NameWords, RowWords, RowNumbers}
+use Rattle.forms.specs.Words.{name-bytes, atom-at, word-symbol, body-of, count-of, sizes-to, variable-size, variables-to, starts, piece-by, pieces, RowWords, RowNumbers}
 use Rattle.forms.specs.Ready.{Spelled}
 use Rattle.forms.specs.Spelling.{spelling, PutExpression}
 use Rattle.forms.proofs.Read.{name-at, number-at, number-constant, number-variable, count-is, body-is, constants-are}
-use Rattle.forms.proofs.Constants.{atom-read, token-words, sum-gather, sizes-at, sizes-are}
+use Rattle.forms.proofs.Constants.{sum-gather, sizes-at, sizes-are}
 use Rattle.forms.proofs.Formulas.{rump-more, fragments-more, begun-by, fragment-by, variable-by, length-fragments, fragments-grown, token-variable}
 
 -- ---- the words' own symbols
@@ -102,13 +101,6 @@ module _ {t w : List ℕ} {n row : ℕ} {l : List Statement} {vs m : List (List 
       }
 
 -- ---- the expression
-module _ {t w : List ℕ} {n row : ℕ} (h : RowWords t w n row) where
-  pub typecode-read : {f x : ℕ} → f ≡ word w (statement-cell row 5) → x ≡ word w (math-cell n f) → x ≡ atom-at w n row 0
-  typecode-read {f} p q = atom-read w n row 0 p (q ∙ ap (λ z. word w (math-cell n z)) (sym (add-zero f)))
-
-  pub typecode-words : {f x : ℕ} → f ≡ word w (statement-cell row 5) → x ≡ word w (math-cell n f) → NameWords t w n x
-  typecode-words p q = token-words h (typecode-read p q) (h .some)
-
 module _ {t w : List ℕ} {n row : ℕ} {l : List Statement} {vs m : List (List ℕ)} (h : RowWords t w n row) (s : Spelled t w n l vs m row) (a : ℕ) where
   abbrev body : List Symbol
   body = static l (stmt l row) .body
@@ -143,18 +135,18 @@ module _ {t w : List ℕ} {n row : ℕ} {l : List Statement} {vs m : List (List 
   unfolding expression-bytes expression spelling static
   spelled-as = rw (spelled-typecode, spelled-variables, spelled-pieces, spelled-rump, spelled-pool)
 
-pub expression-put : {t w b b₁ b₂ b₃ : List ℕ} {n row a x at p q r f v : ℕ} → RowWords t w n row → f ≡ word w (statement-cell row 5) → x ≡ word w (math-cell n f)
+pub expression-put : {t w b b₁ b₂ b₃ : List ℕ} {n row a x at p q r v : ℕ} → RowWords t w n row → x ≡ atom-at w n row 0
     → (v ≤ count-of w row) × (v ≡ variables-to w n row (count-of w row))
     → (p ≤ at + 16777220) × Wrote b b₁ at p (string (name-bytes t w n x))
     → (q ≡ p + 4) × Wrote b₁ b₂ p q (u32 v)
     → (r ≤ q + 8 + 10 * n) × Wrote b₂ b₃ q r (spelling w n row a)
     → PutExpression t w n row a b b₃ at r
-expression-put {t} {w} {n = n} {a = a} h e g c y u z =
+expression-put {t} {w} {n = n} {a = a} h e c y u z =
     record {
       few = omega (arith, y .0, u .0, z .0);
       sim = λ l vs m s.
           wrote-as
-          (wrote-then (wrote-as (y .1) (ap (λ k. string (name-bytes t w n k)) (sym (typecode-read h e g))))
+          (wrote-then (wrote-as (y .1) (ap (λ k. string (name-bytes t w n k)) (sym e)))
           (wrote-then (wrote-as (u .1) (ap u32 (sym (c .1)))) (z .1)))
           (spelled-as h s a);
     }

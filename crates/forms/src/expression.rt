@@ -3,9 +3,12 @@
 use crate::names;
 use crate::pool;
 use crate::words;
+use paper::Atom;
+use paper::StatementRow;
+use paper::TokenIndex;
+use paper::VariableNumber;
 ghost use mathlib.Core.Path.{_≡_};
-ghost use mathlib.Core.Logic.{_≢_};
-ghost use Prim.Native.Nat.{_+_, _-_, _*_, _<_, _≤_, _^_};
+ghost use Prim.Native.Nat.{_+_, _*_, _<_, _≤_, _^_};
 ghost use Rattle.paper.specs.Records.{fragment-bytes};
 ghost use Rattle.stream.specs.Wrote.{Wrote};
 ghost use Rattle.forms.specs.Words.{count-of, variable-size, variables-to, RowWords, RowNumbers, SomeRow};
@@ -18,7 +21,7 @@ pub struct Reached {
     pub to: usize,
 }
 
-/// 1 for a variable, 0 for a constant, by its number.
+/// 1 for a variable, 0 for a constant, by the word NUMBER of its name.
 pub fn one_variable(number: usize) -> usize
     ensures { λ r. ⌜ (r ≤ 1) × (r ≡ variable-size number) ⌝ }
 {
@@ -29,16 +32,15 @@ pub fn one_variable(number: usize) -> usize
 }
 
 /// The number of variables of a row.
-pub fn count_variables(work: &[u32], n: usize, row: usize) -> usize
-    requires { ⌜ SomeRow (now work) n row ⌝ }
-    ensures { λ r. ⌜ (r ≤ count-of (now (work .entry)) row) × (r ≡ variables-to (now (work .entry)) n row (count-of (now (work .entry)) row)) ⌝ }
+pub fn count_variables(work: &[u32], n: usize, row: StatementRow) -> usize
+    requires { ⌜ SomeRow (now work) n (row .0) ⌝ }
+    ensures { λ r. ⌜ (r ≤ count-of (now (work .entry)) (row .0)) × (r ≡ variables-to (now (work .entry)) n (row .0) (count-of (now (work .entry)) (row .0))) ⌝ }
 {
-    let first = words::statement_word(work, row, area::FIRST);
     let count = words::statement_word(work, row, area::COUNT);
     let mut sum = 0;
     let mut i = 1;
     while i < count {
-        let atom = words::math_word(work, n, first + i);
+        let atom = words::math_word(work, n, row, TokenIndex(i as u32));
         sum += one_variable(words::symbol_word(work, n, atom, area::NUMBER));
         i += 1;
     }
@@ -46,19 +48,25 @@ pub fn count_variables(work: &[u32], n: usize, row: usize) -> usize
 }
 
 /// A fragment that a variable of this number ends.
-pub fn put_fragment(buf: &mut [u8], at: usize, from: usize, to: usize, number: usize) -> usize
-    requires { ⌜ (number ≢ 0) × (at < 2 ^ 62) ⌝ }
-    ensures { λ r. ⌜ (r ≡ at + 10) × Wrote (now (buf .entry)) (now (buf .exit)) at r (fragment-bytes (record { from = from; to = to; variable = number - 1 })) ⌝ }
+pub fn put_fragment(
+    buf: &mut [u8],
+    at: usize,
+    from: usize,
+    to: usize,
+    variable: VariableNumber,
+) -> usize
+    requires { ⌜ at < 2 ^ 62 ⌝ }
+    ensures { λ r. ⌜ (r ≡ at + 10) × Wrote (now (buf .entry)) (now (buf .exit)) at r (fragment-bytes (record { from = from; to = to; variable = variable .0 })) ⌝ }
 {
     let a = stream::write::put_u32(buf, at, from as u64);
     let b = stream::write::put_u32(buf, a, to as u64);
-    stream::write::put_u16(buf, b, (number - 1) as u64)
+    stream::write::put_u16(buf, b, variable.0 as u64)
 }
 
 /// One symbol: a constant goes on with the fragment in hand, a variable ends it.
-pub fn put_symbol(work: &[u32], n: usize, buf: &mut [u8], p: Reached, atom: usize) -> Reached
-    requires { ⌜ CanPutSymbol (now work) n p atom ⌝ }
-    ensures { λ r. ⌜ PutSymbol (now (work .entry)) n (now (buf .entry)) (now (buf .exit)) p r atom ⌝ }
+pub fn put_symbol(work: &[u32], n: usize, buf: &mut [u8], p: Reached, atom: Atom) -> Reached
+    requires { ⌜ CanPutSymbol (now work) n p (atom .0) ⌝ }
+    ensures { λ r. ⌜ PutSymbol (now (work .entry)) n (now (buf .entry)) (now (buf .exit)) p r (atom .0) ⌝ }
 {
     let size = pool::constant_length(work, n, atom);
     let number = words::symbol_word(work, n, atom, area::NUMBER);
@@ -69,7 +77,7 @@ pub fn put_symbol(work: &[u32], n: usize, buf: &mut [u8], p: Reached, atom: usiz
             to: p.to + size,
         };
     }
-    let at = put_fragment(buf, p.at, p.from, p.to, number);
+    let at = put_fragment(buf, p.at, p.from, p.to, VariableNumber((number - 1) as u32));
     Reached {
         at: at,
         from: p.to,
@@ -83,13 +91,12 @@ pub fn put_fragments(
     n: usize,
     buf: &mut [u8],
     at: usize,
-    row: usize,
+    row: StatementRow,
     pool: usize,
 ) -> usize
-    requires { ⌜ SomeRow (now work) n row × RowNumbers (now work) n row × (at < 2 ^ 61) × (pool < 2 ^ 61) ⌝ }
-    ensures { λ r. ⌜ (r ≤ at + 8 + 10 * n) × Wrote (now (buf .entry)) (now (buf .exit)) at r (spelling (now (work .entry)) n row pool) ⌝ }
+    requires { ⌜ SomeRow (now work) n (row .0) × RowNumbers (now work) n (row .0) × (at < 2 ^ 61) × (pool < 2 ^ 61) ⌝ }
+    ensures { λ r. ⌜ (r ≤ at + 8 + 10 * n) × Wrote (now (buf .entry)) (now (buf .exit)) at r (spelling (now (work .entry)) n (row .0) pool) ⌝ }
 {
-    let first = words::statement_word(work, row, area::FIRST);
     let count = words::statement_word(work, row, area::COUNT);
     let mut p = Reached {
         at: at,
@@ -98,7 +105,7 @@ pub fn put_fragments(
     };
     let mut i = 1;
     while i < count {
-        let atom = words::math_word(work, n, first + i);
+        let atom = words::math_word(work, n, row, TokenIndex(i as u32));
         p = put_symbol(work, n, buf, p, atom);
         i += 1;
     }
@@ -113,14 +120,13 @@ pub fn put_expression(
     n: usize,
     buf: &mut [u8],
     at: usize,
-    row: usize,
+    row: StatementRow,
     pool: usize,
 ) -> usize
-    requires { ⌜ RowWords (now text) (now work) n row × RowNumbers (now work) n row × (at < 2 ^ 60) × (pool < 2 ^ 60) ⌝ }
-    ensures { λ r. ⌜ PutExpression (now (text .entry)) (now (work .entry)) n row pool (now (buf .entry)) (now (buf .exit)) at r ⌝ }
+    requires { ⌜ RowWords (now text) (now work) n (row .0) × RowNumbers (now work) n (row .0) × (at < 2 ^ 60) × (pool < 2 ^ 60) ⌝ }
+    ensures { λ r. ⌜ PutExpression (now (text .entry)) (now (work .entry)) n (row .0) pool (now (buf .entry)) (now (buf .exit)) at r ⌝ }
 {
-    let first = words::statement_word(work, row, area::FIRST);
-    let typecode = words::math_word(work, n, first);
+    let typecode = words::math_word(work, n, row, TokenIndex(0));
     let variables = count_variables(work, n, row);
     let a = names::put_name(text, work, n, buf, at, typecode);
     let b = stream::write::put_u32(buf, a, variables as u64);

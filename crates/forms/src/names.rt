@@ -1,6 +1,8 @@
 // Names: the bytes of an atom's name, as a string; the strings of a frame's variables.
 // A name's bytes stand in the text, from its word START up to its word STOP.
 use crate::words;
+use paper::Atom;
+use paper::VariableNumber;
 ghost use Prim.Native.Nat.{_+_, _<_, _≤_, _^_};
 ghost use Rattle.paper.specs.Records.{string};
 ghost use Rattle.stream.specs.Wrote.{Wrote};
@@ -8,16 +10,9 @@ ghost use Rattle.forms.specs.Words.{name-bytes, NameWords, VarWords};
 ghost use Rattle.forms.specs.Puts.{PutNames};
 
 /// The name of an atom, as a string.
-pub fn put_name(
-    text: &[u8],
-    work: &[u32],
-    n: usize,
-    buf: &mut [u8],
-    at: usize,
-    atom: usize,
-) -> usize
-    requires { ⌜ NameWords (now text) (now work) n atom × (at < 2 ^ 62) ⌝ }
-    ensures { λ r. ⌜ (r ≤ at + 16777220) × Wrote (now (buf .entry)) (now (buf .exit)) at r (string (name-bytes (now (text .entry)) (now (work .entry)) n atom)) ⌝ }
+pub fn put_name(text: &[u8], work: &[u32], n: usize, buf: &mut [u8], at: usize, atom: Atom) -> usize
+    requires { ⌜ NameWords (now text) (now work) n (atom .0) × (at < 2 ^ 62) ⌝ }
+    ensures { λ r. ⌜ (r ≤ at + 16777220) × Wrote (now (buf .entry)) (now (buf .exit)) at r (string (name-bytes (now (text .entry)) (now (work .entry)) n (atom .0))) ⌝ }
 {
     let start = words::name_word(work, n, atom, area::START);
     let stop = words::name_word(work, n, atom, area::STOP);
@@ -39,7 +34,7 @@ pub fn put_names(
     let mut a = at;
     let mut k = 0;
     while k < vars {
-        let atom = words::bucket_word(work, n, k);
+        let atom = words::bucket_word(work, n, VariableNumber(k as u32));
         a = put_name(text, work, n, buf, a, atom);
         k += 1;
     }

@@ -1,6 +1,9 @@
 // The pool: the constants after the typecode of the active `$e` and of the assertion, each with its last byte raised.
 // A name is a constant where its word NUMBER is no end.
 use crate::words;
+use paper::Atom;
+use paper::StatementRow;
+use paper::TokenIndex;
 ghost use mathlib.Core.Path.{_≡_};
 ghost use Prim.Native.Nat.{_+_, _*_, _<_, _≤_, _^_};
 ghost use Rattle.paper.specs.Expressions.{constant-in};
@@ -16,10 +19,10 @@ pub fn put_constant(
     n: usize,
     buf: &mut [u8],
     at: usize,
-    atom: usize,
+    atom: Atom,
 ) -> usize
-    requires { ⌜ NameWords (now text) (now work) n atom × Low (name-bytes (now text) (now work) n atom) × (at < 2 ^ 62) ⌝ }
-    ensures { λ r. ⌜ (r ≤ at + 16777216) × Wrote (now (buf .entry)) (now (buf .exit)) at r (constant-in (word-symbol (now (text .entry)) (now (work .entry)) n atom)) ⌝ }
+    requires { ⌜ NameWords (now text) (now work) n (atom .0) × Low (name-bytes (now text) (now work) n (atom .0)) × (at < 2 ^ 62) ⌝ }
+    ensures { λ r. ⌜ (r ≤ at + 16777216) × Wrote (now (buf .entry)) (now (buf .exit)) at r (constant-in (word-symbol (now (text .entry)) (now (work .entry)) n (atom .0))) ⌝ }
 {
     if words::symbol_word(work, n, atom, area::NUMBER) != area::NO_END as usize {
         return at;
@@ -36,17 +39,16 @@ pub fn put_constants(
     n: usize,
     buf: &mut [u8],
     at: usize,
-    row: usize,
+    row: StatementRow,
 ) -> usize
-    requires { ⌜ RowWords (now text) (now work) n row × (at < 2 ^ 61) ⌝ }
-    ensures { λ r. ⌜ (r ≤ at + 16777216 * count-of (now (work .entry)) row) × Wrote (now (buf .entry)) (now (buf .exit)) at r (constants-of (now (text .entry)) (now (work .entry)) n row) ⌝ }
+    requires { ⌜ RowWords (now text) (now work) n (row .0) × (at < 2 ^ 61) ⌝ }
+    ensures { λ r. ⌜ (r ≤ at + 16777216 * count-of (now (work .entry)) (row .0)) × Wrote (now (buf .entry)) (now (buf .exit)) at r (constants-of (now (text .entry)) (now (work .entry)) n (row .0)) ⌝ }
 {
-    let first = words::statement_word(work, row, area::FIRST);
     let count = words::statement_word(work, row, area::COUNT);
     let mut a = at;
     let mut i = 1;
     while i < count {
-        let atom = words::math_word(work, n, first + i);
+        let atom = words::math_word(work, n, row, TokenIndex(i as u32));
         a = put_constant(text, work, n, buf, a, atom);
         i += 1;
     }
@@ -61,7 +63,7 @@ pub fn put_stack(text: &[u8], work: &[u32], n: usize, buf: &mut [u8], at: usize,
     let mut a = at;
     let mut k = 0;
     while k < es {
-        let row = words::statement_word(work, k, area::ESS);
+        let row = words::essential_word(work, k);
         a = put_constants(text, work, n, buf, a, row);
         k += 1;
     }
@@ -69,9 +71,9 @@ pub fn put_stack(text: &[u8], work: &[u32], n: usize, buf: &mut [u8], at: usize,
 }
 
 /// The bytes of a name, if it is a constant.
-pub fn constant_length(work: &[u32], n: usize, atom: usize) -> usize
-    requires { ⌜ SomeName (now work) n atom ⌝ }
-    ensures { λ r. ⌜ (r ≤ 16777216) × (r ≡ constant-size (now (work .entry)) n atom) ⌝ }
+pub fn constant_length(work: &[u32], n: usize, atom: Atom) -> usize
+    requires { ⌜ SomeName (now work) n (atom .0) ⌝ }
+    ensures { λ r. ⌜ (r ≤ 16777216) × (r ≡ constant-size (now (work .entry)) n (atom .0)) ⌝ }
 {
     if words::symbol_word(work, n, atom, area::NUMBER) != area::NO_END as usize {
         return 0;
@@ -82,16 +84,15 @@ pub fn constant_length(work: &[u32], n: usize, atom: usize) -> usize
 }
 
 /// The bytes of the constants of a row after the typecode.
-pub fn constants_length(work: &[u32], n: usize, row: usize) -> usize
-    requires { ⌜ SomeRow (now work) n row ⌝ }
-    ensures { λ r. ⌜ (r ≤ 16777216 * count-of (now (work .entry)) row) × (r ≡ sizes-to (now (work .entry)) n row (count-of (now (work .entry)) row)) ⌝ }
+pub fn constants_length(work: &[u32], n: usize, row: StatementRow) -> usize
+    requires { ⌜ SomeRow (now work) n (row .0) ⌝ }
+    ensures { λ r. ⌜ (r ≤ 16777216 * count-of (now (work .entry)) (row .0)) × (r ≡ sizes-to (now (work .entry)) n (row .0) (count-of (now (work .entry)) (row .0))) ⌝ }
 {
-    let first = words::statement_word(work, row, area::FIRST);
     let count = words::statement_word(work, row, area::COUNT);
     let mut sum = 0;
     let mut i = 1;
     while i < count {
-        let atom = words::math_word(work, n, first + i);
+        let atom = words::math_word(work, n, row, TokenIndex(i as u32));
         sum += constant_length(work, n, atom);
         i += 1;
     }
@@ -106,7 +107,7 @@ pub fn stack_length(work: &[u32], n: usize, es: usize) -> usize
     let mut sum = 0;
     let mut k = 0;
     while k < es {
-        let row = words::statement_word(work, k, area::ESS);
+        let row = words::essential_word(work, k);
         sum += constants_length(work, n, row);
         k += 1;
     }
@@ -121,10 +122,10 @@ pub fn put_pool(
     buf: &mut [u8],
     at: usize,
     es: usize,
-    row: usize,
+    row: StatementRow,
 ) -> usize
-    requires { ⌜ StackWords (now text) (now work) n es × RowWords (now text) (now work) n row × Before (now work) es (word (now work) (statement-cell row 5)) × (at < 2 ^ 59) ⌝ }
-    ensures { λ r. ⌜ PutPool (now (text .entry)) (now (work .entry)) n es row (now (buf .entry)) (now (buf .exit)) at r ⌝ }
+    requires { ⌜ StackWords (now text) (now work) n es × RowWords (now text) (now work) n (row .0) × Before (now work) es (word (now work) (statement-cell (row .0) 5)) × (at < 2 ^ 59) ⌝ }
+    ensures { λ r. ⌜ PutPool (now (text .entry)) (now (work .entry)) n es (row .0) (now (buf .entry)) (now (buf .exit)) at r ⌝ }
 {
     let before = stack_length(work, n, es);
     let last = constants_length(work, n, row);

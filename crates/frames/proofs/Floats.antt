@@ -21,7 +21,7 @@ use Rattle.nameck.specs.Atoms.{atoms, atom-of}
 use Rattle.nameck.specs.Named.{Named}
 use Rattle.nameck.proofs.Atoms.{label-in, token-in, atom-below, name-of-atom}
 use Rattle.nameck.proofs.Kept.{math-row}
-use Rattle.forms.specs.Words.{name-bytes, NameWords, Low}
+use Rattle.forms.specs.Words.{name-bytes, atom-at, NameWords, Low}
 use Rattle.frames.specs.Stub.{OfFloat, CanStub, stub-of, Stubs}
 
 -- ---- a word that is the atom of a name
@@ -67,11 +67,12 @@ pub record FloatWords (t w : List ℕ) (n row : ℕ) (s : Statement) : Type 0 wh
   pub end : word w (statement-cell row 7) ≡ s .end
   pub maths : word w (statement-cell row 5) + 1 < n
   pub label : Spelt t w n (word w (statement-cell row 2)) (s .label)
-  pub typecode : Spelt t w n (word w (math-cell n (word w (statement-cell row 5)))) (token s 0 .bytes)
-  pub variable : Spelt t w n (word w (math-cell n (word w (statement-cell row 5) + 1))) (token s 1 .bytes)
+  pub typecode : Spelt t w n (atom-at w n row 0) (token s 0 .bytes)
+  pub variable : Spelt t w n (atom-at w n row 1) (token s 1 .bytes)
   pub low : Low (token s 1 .bytes)
 
 pub float-words : {t w : List ℕ} {n row : ℕ} {l : List Statement} → OfFloat t w n l row → FloatWords t w n row (stmt l row)
+unfolding atom-at
 float-words {t} {w} {n} {row} {l} h =
     record {
       room = h .named .shape .room;
@@ -81,7 +82,7 @@ float-words {t} {w} {n} {row} {l} h =
       end = h .named .shape .end row (h .here);
       maths = rw first (math-row (h .named .shape) row 1 (h .here) (omega (arith, two)));
       label = spelt (h .named) (h .facts) (h .small) (label-in l row (h .here) bears) (h .named .label row (h .here) bears);
-      typecode = spelt (h .named) (h .facts) (h .small) (token-in l row 0 (h .here) (omega (arith, two))) (ap (λ f. word w (math-cell n f)) (first ∙ zero-more) ∙ h .named .math row 0 (h .here) (omega (arith, two)));
+      typecode = spelt (h .named) (h .facts) (h .small) (token-in l row 0 (h .here) (omega (arith, two))) (ap (λ f. word w (math-cell n (f + 0))) first ∙ h .named .math row 0 (h .here) (omega (arith, two)));
       variable = spelt (h .named) (h .facts) (h .small) (token-in l row 1 (h .here) (omega (arith, two))) (ap (λ f. word w (math-cell n (f + 1))) first ∙ h .named .math row 1 (h .here) (omega (arith, two)));
       low = low-last (token (stmt l row) 1 .bytes) (shape .bytes 1 (omega (arith, two)));
     }
@@ -98,9 +99,6 @@ float-words {t} {w} {n} {row} {l} h =
     first : word w (statement-cell row 5) ≡ before l row
     first = h .named .shape .first row (h .here)
 
-    zero-more : before l row ≡ before l row + 0
-    zero-more = omega arith
-
 pub stub-words : {t w : List ℕ} {n row : ℕ} (c : CanStub t w n row) → FloatWords t w n row (stmt (c .l) row)
 stub-words c = float-words (c .holds)
 
@@ -108,7 +106,7 @@ stub-words c = float-words (c .holds)
 pub stubs :
     {t w b b′ x y z : List ℕ} {n row at r start end i j k : ℕ} → CanStub t w n row → start ≡ word w (statement-cell row 1)
     → end ≡ word w (statement-cell row 7) → i ≡ word w (statement-cell row 2)
-    → j ≡ word w (math-cell n (word w (statement-cell row 5))) → k ≡ word w (math-cell n (word w (statement-cell row 5) + 1))
+    → j ≡ atom-at w n row 0 → k ≡ atom-at w n row 1
     → x ≡ name-bytes t w n i → y ≡ name-bytes t w n j → z ≡ name-bytes t w n k
     → (r ≡ at + 26 + length x + length y + length z) × Wrote b b′ at r (frame-record (stub start end x y z))
     → Stubs t w n row b b′ at r
@@ -136,7 +134,7 @@ stubs {t} {w} {b} {b′} {x} {y} {z} {n} {row} {at} {r} {start} {end} {i} {j} {k
 
 pub stub-requires :
     {t w x y z : List ℕ} {n row at i j k : ℕ} → CanStub t w n row → at < 576460752303423488 → i ≡ word w (statement-cell row 2)
-    → j ≡ word w (math-cell n (word w (statement-cell row 5))) → k ≡ word w (math-cell n (word w (statement-cell row 5) + 1))
+    → j ≡ atom-at w n row 0 → k ≡ atom-at w n row 1
     → x ≡ name-bytes t w n i → y ≡ name-bytes t w n j → z ≡ name-bytes t w n k
     → (at + length x + length y + length z < 1152921504606846976) × (getD z (length z - 1) 0 < 128)
 stub-requires {t} {w} {x} {y} {z} {n} {row} {at} can h p q u xs ys zs =

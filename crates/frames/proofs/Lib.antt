@@ -6,3 +6,4 @@ pub mod Parts
 pub mod Scanned
 pub mod Assembled
 pub mod Stages
+pub mod Outer

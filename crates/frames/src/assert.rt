@@ -2,6 +2,8 @@
 // Variables are numbered, the record is written, and the numbers are taken away again.
 use crate::scan::scan_dv;
 use crate::scan::scan_expression;
+use paper::StatementRow;
+use paper::TokenIndex;
 ghost use Prim.Native.Nat.{_<_, _^_};
 ghost use Rattle.frames.specs.Assert.{SomeFraming, Frames};
 
@@ -21,14 +23,14 @@ pub fn construct_full_frame(
     n: usize,
     buf: &mut [u8],
     at: usize,
-    row: usize,
+    row: StatementRow,
     es: usize,
     ds: usize,
 ) -> Built
-    requires { ⌜ SomeFraming (now text) (now work) n row es ds × (at < 2 ^ 56) ⌝ }
-    ensures { λ r. ⌜ Frames (now (text .entry)) (now (work .entry)) (now (work .exit)) n row es ds (now (buf .entry)) (now (buf .exit)) at r ⌝ }
+    requires { ⌜ SomeFraming (now text) (now work) n (row .0) es ds × (at < 2 ^ 56) ⌝ }
+    ensures { λ r. ⌜ Frames (now (text .entry)) (now (work .entry)) (now (work .exit)) n (row .0) es ds (now (buf .entry)) (now (buf .exit)) at r ⌝ }
 {
-    let active = sight::scan_all(work, n, 0, area::ESS, es, 1);
+    let active = sight::scan_all(work, n, 0, area::ESS, es, TokenIndex(1));
     let mandatory = scan_expression(work, n, active, row);
     let vars = scan_dv(work, n, mandatory, ds);
     if MOST_VARIABLES < vars {

@@ -5,6 +5,7 @@ use forms::expression;
 use forms::hyps;
 use forms::names;
 use forms::pool;
+use paper::StatementRow;
 ghost use Prim.Native.Nat.{_<_, _^_};
 ghost use Rattle.frames.specs.InHand.{SomeInHand, SomeWhole, PutHead, PutMiddle, PutFrame};
 
@@ -15,13 +16,13 @@ pub fn put_head(
     n: usize,
     buf: &mut [u8],
     at: usize,
-    row: usize,
+    row: StatementRow,
     es: usize,
     vars: usize,
     mandatory: usize,
 ) -> usize
-    requires { ⌜ SomeInHand (now text) (now work) n row es vars mandatory × (at < 2 ^ 57) ⌝ }
-    ensures { λ r. ⌜ PutHead (now (text .entry)) (now (work .entry)) n row es vars mandatory (now (buf .entry)) (now (buf .exit)) at r ⌝ }
+    requires { ⌜ SomeInHand (now text) (now work) n (row .0) es vars mandatory × (at < 2 ^ 57) ⌝ }
+    ensures { λ r. ⌜ PutHead (now (text .entry)) (now (work .entry)) n (row .0) es vars mandatory (now (buf .entry)) (now (buf .exit)) at r ⌝ }
 {
     let a = crate::front::put_front(text, work, n, buf, at, row, vars, mandatory);
     let a = names::put_names(text, work, n, buf, a, vars);
@@ -35,13 +36,13 @@ pub fn put_middle(
     n: usize,
     buf: &mut [u8],
     at: usize,
-    row: usize,
+    row: StatementRow,
     es: usize,
     vars: usize,
     mandatory: usize,
 ) -> usize
-    requires { ⌜ SomeInHand (now text) (now work) n row es vars mandatory × (at < 2 ^ 57) ⌝ }
-    ensures { λ r. ⌜ PutMiddle (now (text .entry)) (now (work .entry)) n row es vars mandatory (now (buf .entry)) (now (buf .exit)) at r ⌝ }
+    requires { ⌜ SomeInHand (now text) (now work) n (row .0) es vars mandatory × (at < 2 ^ 57) ⌝ }
+    ensures { λ r. ⌜ PutMiddle (now (text .entry)) (now (work .entry)) n (row .0) es vars mandatory (now (buf .entry)) (now (buf .exit)) at r ⌝ }
 {
     let a = hyps::put_hyps(text, work, n, buf, at, mandatory, es, row);
     let before = pool::stack_length(work, n, es);
@@ -55,14 +56,14 @@ pub fn put_frame(
     n: usize,
     buf: &mut [u8],
     at: usize,
-    row: usize,
+    row: StatementRow,
     es: usize,
     ds: usize,
     vars: usize,
     mandatory: usize,
 ) -> usize
-    requires { ⌜ SomeWhole (now text) (now work) n row es ds vars mandatory × (at < 2 ^ 56) ⌝ }
-    ensures { λ r. ⌜ PutFrame (now (text .entry)) (now (work .entry)) (now (work .exit)) n row es ds vars mandatory (now (buf .entry)) (now (buf .exit)) at r ⌝ }
+    requires { ⌜ SomeWhole (now text) (now work) n (row .0) es ds vars mandatory × (at < 2 ^ 56) ⌝ }
+    ensures { λ r. ⌜ PutFrame (now (text .entry)) (now (work .entry)) (now (work .exit)) n (row .0) es ds vars mandatory (now (buf .entry)) (now (buf .exit)) at r ⌝ }
 {
     let start = at + 4;
     let a = put_head(text, work, n, buf, start, row, es, vars, mandatory);

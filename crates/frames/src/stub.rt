@@ -1,16 +1,19 @@
 // The stub frame of an accepted `$f`.
 // Names come from the text, as parts, by the words of their atoms.
 use forms::words;
+use paper::Atom;
 use paper::StatementOffset;
+use paper::StatementRow;
+use paper::TokenIndex;
 ghost use mathlib.Core.Path.{_≡_};
-ghost use Prim.Native.Nat.{_+_, _<_, _^_};
+ghost use Prim.Native.Nat.{_<_, _^_};
 ghost use Rattle.forms.specs.Words.{name-bytes, NameWords};
 ghost use Rattle.frames.specs.Stub.{CanStub, Stubs};
 
 /// The bytes of a name.
-pub fn name_part<'a>(text: &'a [u8], work: &[u32], n: usize, atom: usize) -> &'a [u8]
-    requires { ⌜ NameWords (now text) (now work) n atom ⌝ }
-    ensures { λ r. ⌜ now r ≡ name-bytes (now (text .entry)) (now (work .entry)) n atom ⌝ }
+pub fn name_part<'a>(text: &'a [u8], work: &[u32], n: usize, atom: Atom) -> &'a [u8]
+    requires { ⌜ NameWords (now text) (now work) n (atom .0) ⌝ }
+    ensures { λ r. ⌜ now r ≡ name-bytes (now (text .entry)) (now (work .entry)) n (atom .0) ⌝ }
 {
     let start = words::name_word(work, n, atom, area::START);
     let stop = words::name_word(work, n, atom, area::STOP);
@@ -24,17 +27,16 @@ pub fn construct_stub_frame(
     n: usize,
     frames: &mut [u8],
     at: usize,
-    row: usize,
+    row: StatementRow,
 ) -> usize
-    requires { ⌜ CanStub (now text) (now work) n row × (at < 2 ^ 59) ⌝ }
-    ensures { λ r. ⌜ Stubs (now (text .entry)) (now (work .entry)) n row (now (frames .entry)) (now (frames .exit)) at r ⌝ }
+    requires { ⌜ CanStub (now text) (now work) n (row .0) × (at < 2 ^ 59) ⌝ }
+    ensures { λ r. ⌜ Stubs (now (text .entry)) (now (work .entry)) n (row .0) (now (frames .entry)) (now (frames .exit)) at r ⌝ }
 {
-    let first = words::statement_word(work, row, area::FIRST);
     let start = words::statement_word(work, row, area::AT);
     let end = words::statement_word(work, row, area::END);
-    let label = name_part(text, work, n, words::statement_word(work, row, area::LABEL));
-    let typecode = name_part(text, work, n, words::math_word(work, n, first));
-    let variable = name_part(text, work, n, words::math_word(work, n, first + 1));
+    let label = name_part(text, work, n, words::label_word(work, row));
+    let typecode = name_part(text, work, n, words::math_word(work, n, row, TokenIndex(0)));
+    let variable = name_part(text, work, n, words::math_word(work, n, row, TokenIndex(1)));
     stream::record::put_stub(
         frames,
         at,

@@ -1,10 +1,15 @@
 pub mod Atoms
 pub mod Kept
 pub mod Search
+pub mod Hash
+pub mod Links
+pub mod Found
+pub mod Added
 pub mod Answers
 pub mod Part
 pub mod Column
 pub mod Progress
+pub mod Notes
 pub mod Step
 pub mod Walk
 pub mod Whole

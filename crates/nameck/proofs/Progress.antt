@@ -1,46 +1,46 @@
--- Each store of naming takes what is done one step on: a name interned, an atom for a math token or a label, an owner or
--- a global declaration noted.
-use mathlib.Core.Path.{_≡_, refl, sym, ap, _∙_}
+-- Each store of naming takes what is done one step on: a name interned, an atom for a math token or a label.
+-- Assumes nothing.
+use mathlib.Core.Path.{_≡_, sym, ap, _∙_}
 use mathlib.Core.Logic.{_≢_}
-use mathlib.Core.Bool.{Bool, true, false}
-use mathlib.Core.List.{List, [], _∷_, _++_, append-assoc, append-nil}
-use Prim.Native.Nat.{ℕ, zero, suc, _+_, _-_, _*_, _<_, _≤_}
+use mathlib.Core.Bool.{true, false}
+use mathlib.Core.List.{List, [], _∷_, _++_, append-assoc}
+use Prim.Native.Nat.{ℕ, _+_, _-_, _<_, _≤_}
 use native.Mathlib.Omega.{arith}
 use lib.Dec.{eqb}
 use lib.ListN.{length, getD, take, drop, set}
-use borrow.Author.Tests.{eqb-true, ne-eqb}
-use Rattle.paper.specs.Base.{choose, gather}
-use Rattle.paper.specs.Tokens.{Token}
+use borrow.Author.Tests.{eqb-true}
+use Rattle.paper.specs.Base.{gather}
 use Rattle.paper.specs.Statements.{labelled, Statement}
-use Rattle.paper.specs.Names.{Declared}
 use Rattle.paper.specs.Variables.{member, see, sights, index}
 use Rattle.paper.specs.Checks.{token, no-token}
 use Rattle.paper.proofs.Tests.{split, clash, eqb-ne}
-use Rattle.paper.proofs.Names.{Grown, grown-length, grown-index, see-self, sights-append, sights-one, sights-grown, index-lt, Distinct, distinct-none, distinct-sights}
+use Rattle.paper.proofs.Names.{Grown, grown-length, grown-index, see-self, sights-append, sights-one, sights-grown, index-lt}
 use Rattle.paper.proofs.Gather.{gather-at}
-use Rattle.area.specs.Cells.{statement-cell, name-cell, symbol-cell, math-cell, word, Only}
+use Rattle.area.specs.Cells.{statement-cell, name-cell, bucket-cell, symbol-cell, math-cell, word, Only}
 use Rattle.area.proofs.Laws.{word-same, word-other, only-set}
 use Rattle.reader.specs.Rows.{no-statement, stmt, before}
 use Rattle.nameck.specs.Atoms.{names-in, atoms, atom-of}
-use Rattle.nameck.specs.Table.{names-of, Spans, Interns, noted, globally}
-use Rattle.nameck.specs.Naming.{Done, declared-as, Column, owner-by, global-by, Labels, Maths, Blank, Progress, Ahead}
+use Rattle.nameck.specs.Table.{name-at, names-of, Spans, Interns}
+use Rattle.nameck.specs.Links.{Linked}
+use Rattle.nameck.specs.Naming.{Done, Column, owner-by, global-by, Labels, Maths, Blank, Progress, Ahead}
 use Rattle.nameck.proofs.Kept.{shape-kept, math-row}
 use Rattle.nameck.proofs.Search.{names-length, names-same, name-same}
-use Rattle.nameck.proofs.Column.{noted-only, noted-other, column-kept, column-see, column-note, owner-more, global-more}
+use Rattle.nameck.proofs.Links.{link-kept, linked-kept}
+use Rattle.nameck.proofs.Column.{column-kept, column-see}
 
 -- ---- what rests on words that are kept
-labels-kept : {w v : List ℕ} {l : List Statement} {k : ℕ} → ((s : ℕ) → s < length l → word v (statement-cell s 2) ≡ word w (statement-cell s 2)) → Labels w l k → Labels v l k
+pub labels-kept : {w v : List ℕ} {l : List Statement} {k : ℕ} → ((s : ℕ) → s < length l → word v (statement-cell s 2) ≡ word w (statement-cell s 2)) → Labels w l k → Labels v l k
 labels-kept e h =
     record { done = λ s g b f. e s b ∙ h .done s g b f; left = λ s g b. e s b ∙ h .left s g b }
 
-maths-kept : {w v : List ℕ} {n : ℕ} {l : List Statement} {p : ℕ} → ((i : ℕ) → word v (math-cell n i) ≡ word w (math-cell n i)) → Maths w n l p → Maths v n l p
+pub maths-kept : {w v : List ℕ} {n : ℕ} {l : List Statement} {p : ℕ} → ((i : ℕ) → word v (math-cell n i) ≡ word w (math-cell n i)) → Maths w n l p → Maths v n l p
 maths-kept {l = l} e h =
     record {
       done = λ s i g k b. e (before l s + i) ∙ h .done s i g k b;
       left = λ s i g k b. e (before l s + i) ∙ h .left s i g k b;
     }
 
-spans-kept : {t w v : List ℕ} {n m : ℕ} → length v ≡ length w → ((a c : ℕ) → a < m → c < 2 → word v (name-cell n a c) ≡ word w (name-cell n a c)) → Spans t w n m → Spans t v n m
+pub spans-kept : {t w v : List ℕ} {n m : ℕ} → length v ≡ length w → ((a c : ℕ) → a < m → c < 2 → word v (name-cell n a c) ≡ word w (name-cell n a c)) → Spans t w n m → Spans t v n m
 spans-kept e k h =
     record {
       room = omega (arith, h .room, e);
@@ -51,13 +51,19 @@ spans-kept e k h =
       within = λ a g. rw (k a 1 g (omega arith)) (h .within a g);
     }
 
-names-kept : (t w v : List ℕ) (n m : ℕ) → ((a c : ℕ) → a < m → c < 2 → word v (name-cell n a c) ≡ word w (name-cell n a c)) → names-of t v n m ≡ names-of t w n m
+pub names-kept : (t w v : List ℕ) (n m : ℕ) → ((a c : ℕ) → a < m → c < 2 → word v (name-cell n a c) ≡ word w (name-cell n a c)) → names-of t v n m ≡ names-of t w n m
 names-kept t w v n m k =
     names-same t w v n m (λ a g. name-same t w v n a (k a 0 g (omega arith)) (k a 1 g (omega arith)))
 
-blank-kept : {w v : List ℕ} {n : ℕ} → ((a c : ℕ) → a < n → 2 ≤ c → c < 7 → word v (symbol-cell n a c) ≡ word w (symbol-cell n a c)) → ((a : ℕ) → a < n → word v (name-cell n a 2) ≡ word w (name-cell n a 2)) → Blank w n → Blank v n
-blank-kept e f h =
-    record { symbols = λ a c g k b. e a c g k b ∙ h .symbols a c g k b; until = λ a g. f a g ∙ h .until a g }
+pub blank-kept : {w v : List ℕ} {n : ℕ} → ((a c : ℕ) → a < n → 5 ≤ c → c < 7 → word v (symbol-cell n a c) ≡ word w (symbol-cell n a c)) → Blank w n → Blank v n
+blank-kept e h = record { symbols = λ a c g k b. e a c g k b ∙ h .symbols a c g k b }
+
+-- a write that keeps the names, the buckets and the symbols' word 2
+pub links-kept : {t w v : List ℕ} {n m : ℕ} {x : Done} → Progress t w n x m → ((a c : ℕ) → a < n → c < 3 → word v (name-cell n a c) ≡ word w (name-cell n a c)) → ((b : ℕ) → b < n → word v (bucket-cell n b) ≡ word w (bucket-cell n b)) → ((a : ℕ) → a < n → word v (symbol-cell n a 2) ≡ word w (symbol-cell n a 2)) → Linked v n m (name-at t v n)
+links-kept {t} {w} {v} {n} {m} h f g k =
+    linked-kept v (h .linked) (omega (arith, h .text .few)) (h .spans .rows) g
+    (λ a r l. link-kept w v n a r (f a 2 l (omega arith)) (k a l))
+    (λ a l. name-same t w v n a (f a 0 (omega (arith, h .spans .rows)) (omega arith)) (f a 1 (omega (arith, h .spans .rows)) (omega arith)))
 
 -- ---- names that come next are among all names
 ahead-grown : {x : Done} {b : List (List ℕ)} → Ahead x b → Grown (sights (x .names ++ b) []) (atoms (x .of))
@@ -119,9 +125,9 @@ module _ {t w v : List ℕ} {n m start stop atom r : ℕ} {x : Done} (h : Progre
   pub atom-free : atom < n
   atom-free = omega (arith, atom-index, index-lt b (sights (x .names ++ (b ∷ [])) []) in-names, few-names)
 
-  column-now : (c : ℕ) (f : List ℕ → ℕ) → c < 7 → Column w n c (sights (x .names) []) f → Column v n c (sights (x .names ++ (b ∷ [])) []) f
+  column-now : (c : ℕ) (f : List ℕ → ℕ) → c < 2 → Column w n c (sights (x .names) []) f → Column v n c (sights (x .names ++ (b ∷ [])) []) f
   column-now c f k z =
-      column-kept few-names (λ i g. y .only .above (symbol-cell n i c) (omega arith))
+      column-kept few-names (λ i g. y .symbols i c g (omega arith) (λ q. omega (arith, q)))
       (let q : sights (x .names ++ (b ∷ [])) [] ≡ see (sights (x .names) []) b = sights-one (x .names) b [] in
       rw q (column-see b (rw q at few-names) z))
 
@@ -143,7 +149,8 @@ module _ {t w v : List ℕ} {n m start stop atom r : ℕ} {x : Done} (h : Progre
         names = names-now;
         owners = column-now 0 (owner-by (x .bearers)) (omega arith) (h .owners);
         globals = column-now 1 (global-by (x .declared)) (omega arith) (h .globals);
-        blank = blank-kept (λ i c g k l. y .only .above (symbol-cell n i c) (omega arith)) (λ i g. y .until i) (h .blank);
+        linked = y .linked;
+        blank = blank-kept (λ i c g k l. y .symbols i c g l (λ q. omega (arith, q))) (h .blank);
       }
 
 -- ---- an atom for the next math token
@@ -196,7 +203,8 @@ module _ {t w : List ℕ} {n m : ℕ} {x : Done} (h : Progress t w n x m) {s i u
         names = names-kept t w (set w (math-cell n (x .maths)) u) n m (λ a c b d. math-set .below (name-cell n a c) (omega (arith, h .spans .rows))) ∙ h .names;
         owners = column-kept (omega (arith, progress-count h, h .spans .rows)) (λ a b. math-set .below (symbol-cell n a 0) (omega arith)) (h .owners);
         globals = column-kept (omega (arith, progress-count h, h .spans .rows)) (λ a b. math-set .below (symbol-cell n a 1) (omega arith)) (h .globals);
-        blank = blank-kept (λ a c b d f. math-set .below (symbol-cell n a c) (omega arith)) (λ a b. math-set .below (name-cell n a 2) (omega arith)) (h .blank);
+        linked = links-kept h (λ a c b d. math-set .below (name-cell n a c) (omega arith)) (λ a b. math-set .below (bucket-cell n a) (omega arith)) (λ a b. math-set .below (symbol-cell n a 2) (omega arith));
+        blank = blank-kept (λ a c b d f. math-set .below (symbol-cell n a c) (omega arith)) (h .blank);
       }
 
 -- ---- an atom for the next label
@@ -222,6 +230,7 @@ progress-unlabelled {w = w} {x = x} h e =
       names = h .names;
       owners = h .owners;
       globals = h .globals;
+      linked = h .linked;
       blank = h .blank;
     }
   where
@@ -264,80 +273,6 @@ module _ {t w : List ℕ} {n m : ℕ} {x : Done} (h : Progress t w n x m) {u : �
         names = names-kept t w (set w (statement-cell (x .labels) 2) u) n m (λ a c b d. label-set .above (name-cell n a c) (omega (arith, h .shape .few))) ∙ h .names;
         owners = column-kept (omega (arith, progress-count h, h .spans .rows)) (λ a b. label-set .above (symbol-cell n a 0) (omega (arith, h .shape .few))) (h .owners);
         globals = column-kept (omega (arith, progress-count h, h .spans .rows)) (λ a b. label-set .above (symbol-cell n a 1) (omega (arith, h .shape .few))) (h .globals);
-        blank = blank-kept (λ a c b d f. label-set .above (symbol-cell n a c) (omega (arith, h .shape .few))) (λ a b. label-set .above (name-cell n a 2) (omega (arith, h .shape .few))) (h .blank);
+        linked = links-kept h (λ a c b d. label-set .above (name-cell n a c) (omega (arith, h .shape .few))) (λ a b. label-set .above (bucket-cell n a) (omega (arith, h .shape .few))) (λ a b. label-set .above (symbol-cell n a 2) (omega (arith, h .shape .few)));
+        blank = blank-kept (λ a c b d f. label-set .above (symbol-cell n a c) (omega (arith, h .shape .few))) (h .blank);
       }
-
--- ---- an owner or a declaration noted, for a name that was seen
-abbrev pub with-notes : Done → List Token → List Declared → Done
-with-notes x b d =
-    record {
-      of = x .of;
-      labels = x .labels;
-      maths = x .maths;
-      names = x .names;
-      bearers = b;
-      declared = d;
-    }
-
-module _ {t w : List ℕ} {n m : ℕ} {x : Done} (h : Progress t w n x m) (a c u : ℕ) (f : a < n) (g : c < 2) where
-  note-only : Only (symbol-cell n a c) (symbol-cell n a c + 1) w (noted w (symbol-cell n a c) u)
-  note-only = noted-only w (symbol-cell n a c) u
-
-  other-column : (d : ℕ) (z : List ℕ → ℕ) → d < 2 → d ≢ c → Column w n d (sights (x .names) []) z → Column (noted w (symbol-cell n a c) u) n d (sights (x .names) []) z
-  other-column d z k q y =
-      column-kept (omega (arith, progress-count h, h .spans .rows))
-      (λ i b. noted-other w (symbol-cell n a c) u (symbol-cell n i d) (λ p. q (omega (arith, p)))) y
-
-  noted-progress : (b : List Token) (d : List Declared) → Column (noted w (symbol-cell n a c) u) n 0 (sights (x .names) []) (owner-by b) → Column (noted w (symbol-cell n a c) u) n 1 (sights (x .names) []) (global-by d) → Progress t (noted w (symbol-cell n a c) u) n (with-notes x b d) m
-  noted-progress b d y z =
-      record {
-        shape = shape-kept (note-only .len) (λ r i k l j. note-only .below (statement-cell r i) (omega (arith, h .shape .few))) (h .shape);
-        text = h .text;
-        labels = labels-kept (λ r k. note-only .below (statement-cell r 2) (omega (arith, h .shape .few))) (h .labels);
-        maths = maths-kept (λ i. note-only .above (math-cell n i) (omega arith)) (h .maths);
-        spans = spans-kept (note-only .len) (λ i j k l. note-only .below (name-cell n i j) (omega (arith, h .spans .rows))) (h .spans);
-        names = names-kept t w (noted w (symbol-cell n a c) u) n m (λ i j k l. note-only .below (name-cell n i j) (omega (arith, h .spans .rows))) ∙ h .names;
-        owners = y;
-        globals = z;
-        blank = blank-kept
-            (λ i j k l p. noted-other w (symbol-cell n a c) u (symbol-cell n i j) (λ q. omega (arith, q)))
-            (λ i k. note-only .below (name-cell n i 2) (omega arith)) (h .blank);
-      }
-
-module _ {t w : List ℕ} {n m : ℕ} {x : Done} (h : Progress t w n x m) {a : ℕ} (b : List ℕ) (k : member b (sights (x .names) []) ≡ true) (e : a ≡ index (sights (x .names) []) b) where
-  row-free : index (sights (x .names) []) b < n
-  row-free = omega (arith, index-lt b (sights (x .names) []) k, progress-count h, h .spans .rows)
-
-  few-rows : length (sights (x .names) []) ≤ n
-  few-rows = omega (arith, progress-count h, h .spans .rows)
-
-  distinct : Distinct (sights (x .names) [])
-  distinct = distinct-sights (x .names) [] distinct-none
-
-  pub progress-owner : (o : ℕ) → Progress t (noted w (symbol-cell n a 0) (o + 1)) n (with-notes x (x .bearers ++ (record { at = o; bytes = b } ∷ [])) (x .declared)) m
-  progress-owner o =
-      let y : Token = record { at = o; bytes = b } in
-      rw e
-      (noted-progress h (index (sights (x .names) []) b) 0 (o + 1) row-free (omega arith) (x .bearers ++ (y ∷ [])) (x .declared)
-      (column-note b (o + 1) (h .spans .room) (omega arith) few-rows distinct k (h .owners) (owner-more (x .bearers) y))
-      (other-column h (index (sights (x .names) []) b) 0 (o + 1) row-free (omega arith) 1 (global-by (x .declared)) (omega arith) (λ q. omega (arith, q)) (h .globals)))
-
-  global-noted : (o : ℕ) (z : Bool) → Progress t (noted w (symbol-cell n a 1) (2 * o + choose z 1 2)) n (with-notes x (x .bearers) (x .declared ++ (record { name = b; at = o; constant = z } ∷ []))) m
-  global-noted o z =
-      let y : Declared = record { name = b; at = o; constant = z } in
-      let u = 2 * o + choose z 1 2 in
-      rw e
-      (noted-progress h (index (sights (x .names) []) b) 1 u row-free (omega arith) (x .bearers) (x .declared ++ (y ∷ []))
-      (other-column h (index (sights (x .names) []) b) 1 u row-free (omega arith) 0 (owner-by (x .bearers)) (omega arith) (λ q. omega (arith, q)) (h .owners))
-      (column-note b u (h .spans .room) (omega arith) few-rows distinct k (h .globals) (global-more (x .declared) y)))
-
-  pub progress-global : (c o : ℕ) → c ≤ 2 → Progress t (globally c w n a o) n (with-notes x (x .bearers) (x .declared ++ declared-as c (record { at = o; bytes = b } ∷ []))) m
-  unfolding globally
-  progress-global zero o l = rw append-nil h
-  progress-global (suc c) o l =
-      let q : 2 * o + suc c ≡ 2 * o + choose (eqb c 0) 1 2 = word-of c (omega arith) in
-      rw (ne-eqb (suc c) 0 (λ z. omega (arith, z)), q) (global-noted o (eqb c 0))
-    where
-      word-of : (c : ℕ) → c ≤ 1 → 2 * o + suc c ≡ 2 * o + choose (eqb c 0) 1 2
-      word-of zero l = refl
-      word-of (suc c) l = let q : c ≡ 0 = omega arith in rw q

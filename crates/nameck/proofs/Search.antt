@@ -1,23 +1,22 @@
--- A name looked for among those in the rows, and added: what the walk finds is its place in their list.
+-- Bytes compared, and a name looked for among those in the rows: its place in their list.
 -- Assumes nothing.
 use mathlib.Core.Path.{_≡_, refl, sym, ap, _∙_}
-use mathlib.Core.Logic.{_≢_, ⊎-elim}
+use mathlib.Core.Logic.{⊎-elim}
 use mathlib.Core.Bool.{Bool, true, false}
 use mathlib.Core.List.{List, [], _∷_, _++_}
-use Prim.Native.Nat.{ℕ, zero, suc, _+_, _-_, _*_, _<_, _≤_}
+use Prim.Native.Nat.{ℕ, zero, suc, _+_, _-_, _<_, _≤_}
 use native.Mathlib.Nat.{eq-or-lt-of-le, le-of-suc-le-suc}
 use native.Mathlib.Numerals.{add-one}
 use native.Mathlib.Omega.{arith}
-use lib.ListN.{length, getD, take, drop, set, length-append, length-set, drop-of-length-le}
+use lib.ListN.{length, getD, take, drop, length-append, drop-of-length-le}
 use lib.Seq.{drop-cons}
 use borrow.Author.Tests.{eq-eqb, ne-eqb}
 use Rattle.paper.specs.Base.{sameb, any}
 use Rattle.paper.specs.Variables.{member, index}
-use Rattle.paper.proofs.Tests.{split, same-refl, ne-same}
+use Rattle.paper.proofs.Tests.{split, ne-same}
 use Rattle.paper.proofs.Names.{same-sym, member-left, member-right, member-one, index-in, index-past, index-lt}
-use Rattle.area.specs.Cells.{name-cell, word, Only}
-use Rattle.area.proofs.Laws.{word-same, word-other, only-none, only-set, only-then}
-use Rattle.nameck.specs.Table.{name-at, names-of, found, Spans, with-name, CanIntern, Interns}
+use Rattle.area.specs.Cells.{name-cell, word}
+use Rattle.nameck.specs.Table.{name-at, names-of, found, Spans}
 
 -- ---- bytes compared from a place on
 unfoldable pub same-from : List ℕ → List ℕ → ℕ → Bool
@@ -154,95 +153,3 @@ found-few t w n m x r e =
     (λ q. let z : r ≡ index (names-of t w n m) x + 1 = e ∙ rw q in
     omega (arith, index-lt x (names-of t w n m) q, names-length t w n m))
     (λ q. let z : r ≡ 0 = e ∙ rw q in omega arith)
-
--- ---- a name that is there
-pub intern-old : {t w : List ℕ} {n m start stop r : ℕ} → Spans t w n m → r ≡ found (names-of t w n m) (take (stop - start) (drop start t)) → (r ≡ 0 → ⊥) → Interns t w w n m start stop (r - 1) m
-intern-old {t} {w} {n} {m} {start} {stop} {r} b e d =
-    let x = take (stop - start) (drop start t) in
-    let f = found-some (names-of t w n m) x r e d in
-    record {
-      only = only-none (4 * n) (8 * n) w;
-      until = λ a. refl;
-      names = rw (f .0);
-      atom-is = f .1;
-      start-stop = b .start-stop;
-      within = b .within;
-    }
-
--- ---- a new one
-module _ (t w : List ℕ) (n m start stop : ℕ) (room : 16 * n ≤ length w) (free : m < n) where
-  added-start : word (with-name w n m start stop) (name-cell n m 0) ≡ start
-  unfolding with-name
-  added-start =
-      word-other (set w (name-cell n m 0) start) (name-cell n m 1) (name-cell n m 0) stop (λ q. omega (arith, q))
-      ∙ word-same w (name-cell n m 0) start (omega arith)
-
-  added-stop : word (with-name w n m start stop) (name-cell n m 1) ≡ stop
-  unfolding with-name
-  added-stop =
-      word-same (set w (name-cell n m 0) start) (name-cell n m 1) stop (omega (arith, length-set w (name-cell n m 0) start))
-
-  added-other : (i : ℕ) → i ≢ name-cell n m 0 → i ≢ name-cell n m 1 → word (with-name w n m start stop) i ≡ word w i
-  unfolding with-name
-  added-other i p q =
-      word-other (set w (name-cell n m 0) start) (name-cell n m 1) i stop q ∙ word-other w (name-cell n m 0) i start p
-
-  added-row : (a c : ℕ) → a < m → c < 3 → word (with-name w n m start stop) (name-cell n a c) ≡ word w (name-cell n a c)
-  added-row a c h k = added-other (name-cell n a c) (λ q. omega (arith, q)) (λ q. omega (arith, q))
-
-  added-only : Only (4 * n) (8 * n) w (with-name w n m start stop)
-  unfolding with-name
-  added-only =
-      only-then (only-set (4 * n) (8 * n) w (name-cell n m 0) start (omega arith) (omega arith))
-      (only-set (4 * n) (8 * n) (set w (name-cell n m 0) start) (name-cell n m 1) stop (omega arith) (omega arith))
-
-  added-name : name-at t (with-name w n m start stop) n m ≡ take (stop - start) (drop start t)
-  unfolding name-at
-  added-name = rw (added-start, added-stop)
-
-  added-names : names-of t (with-name w n m start stop) n (m + 1) ≡ names-of t w n m ++ (take (stop - start) (drop start t) ∷ [])
-  added-names =
-      names-more t (with-name w n m start stop) n m
-      ∙ rw (
-        added-name,
-        names-same t w (with-name w n m start stop) n m
-            (λ a h. name-same t w (with-name w n m start stop) n a (added-row a 0 h (omega arith)) (added-row a 1 h (omega arith))),
-      )
-
-pub intern-new : {t w v : List ℕ} {n m start stop r : ℕ} → CanIntern t w n m start stop → r ≡ found (names-of t w n m) (take (stop - start) (drop start t)) → r ≡ 0 → v ≡ with-name w n m start stop → Interns t w v n m start stop m (m + 1)
-unfolding index
-intern-new {t} {w} {v} {n} {m} {start} {stop} b e d p =
-    let x = take (stop - start) (drop start t) in
-    let f : member x (names-of t w n m) ≡ false = found-zero (names-of t w n m) x (sym e ∙ d) in
-    let h = b .free in
-    let g = b .spans .room in
-    let s : names-of t (with-name w n m start stop) n (m + 1) ≡ names-of t w n m ++ (x ∷ []) = added-names t w n m start stop g h in
-    rw p
-    (record {
-      only = added-only t w n m start stop g h;
-      until = λ a. added-other t w n m start stop g h (name-cell n a 2) (λ q. omega (arith, q)) (λ q. omega (arith, q));
-      names = rw f s;
-      atom-is = rw s (sym (index-past x (names-of t w n m) (x ∷ []) f ∙ rw (same-refl x) (omega (arith, names-length t w n m))));
-      start-stop = λ a k.
-          ⊎-elim
-          (λ q. omega (
-            arith,
-            q,
-            b .order,
-            ap (λ i. word (with-name w n m start stop) (name-cell n i 0)) q,
-            ap (λ i. word (with-name w n m start stop) (name-cell n i 1)) q,
-            added-start t w n m start stop g h,
-            added-stop t w n m start stop g h,
-          ))
-          (λ q. rw (added-row t w n m start stop g h a 0 q (omega arith), added-row t w n m start stop g h a 1 q (omega arith)) (b .spans .start-stop a q))
-          (eq-or-lt-of-le (below a k));
-      within = λ a k.
-          ⊎-elim
-          (λ q. omega
-          (arith, b .fits, ap (λ i. word (with-name w n m start stop) (name-cell n i 1)) q, added-stop t w n m start stop g h))
-          (λ q. rw (added-row t w n m start stop g h a 1 q (omega arith)) (b .spans .within a q))
-          (eq-or-lt-of-le (below a k));
-    })
-  where
-    below : (a : ℕ) → a < m + 1 → a ≤ m
-    below a k = omega arith

@@ -23,7 +23,8 @@ use Rattle.nameck.specs.Naming.{Done, with-label, with-math, Progress, A
 use Rattle.nameck.proofs.Kept.{math-row}
 use Rattle.nameck.proofs.Part.{Lies, visible-lies}
 use Rattle.nameck.proofs.Column.{noted-other}
-use Rattle.nameck.proofs.Progress.{progress-free, atom-index, atom-final, atom-free, progress-intern, progress-math, progress-unlabelled, progress-label, progress-owner, progress-global}
+use Rattle.nameck.proofs.Progress.{progress-free, atom-index, atom-final, atom-free, progress-intern, progress-math, progress-unlabelled, progress-label}
+use Rattle.nameck.proofs.Notes.{progress-owner, progress-global}
 
 -- ---- the kinds that bear a label are 4 and above
 kind-bears : (k : Kind) → (kind-number k < 4 → ⊥) → labelled k ≡ true
@@ -48,7 +49,7 @@ kind-bare $p h = absurd (omega (arith, h))
 module _ {t w : List ℕ} {n m at stop : ℕ} {x : Done} {b : List (List ℕ)} (y : Token) (h : Progress t w n x m) (a : Ahead x b) (s : Stands t y) (p : at ≡ y .at) (q : stop ≡ y .at + length (y .bytes)) where
   can-intern : CanIntern t w n m at stop
   can-intern =
-      record { spans = h .spans; free = progress-free h a; order = omega arith; fits = omega (arith, s .within) }
+      record { spans = h .spans; linked = h .linked; free = progress-free h a; order = omega arith; fits = omega (arith, s .within) }
 
   its-bytes : take (stop - at) (drop at t) ≡ y .bytes
   its-bytes = let e : stop - at ≡ length (y .bytes) = omega arith in rw (e, p) (s .bytes)

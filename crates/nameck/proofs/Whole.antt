@@ -17,7 +17,7 @@ use Rattle.paper.specs.Names.{bearer, labels, owner, declared-by, declarations,
 use Rattle.paper.specs.Variables.{sights}
 use Rattle.paper.proofs.Tests.{split}
 use Rattle.paper.proofs.Gather.{map-append, gather-more, gather-parts, gather-upto}
-use Rattle.area.specs.Cells.{statement-cell, name-cell, symbol-cell, word}
+use Rattle.area.specs.Cells.{statement-cell, symbol-cell, word}
 use Rattle.token.specs.Words.{tokens-from}
 use Rattle.token.proofs.Counts.{tokens-few}
 use Rattle.reader.specs.Rows.{no-statement, stmt, before, kind-number}
@@ -27,6 +27,7 @@ use Rattle.nameck.specs.Table.{name-at, names-of}
 use Rattle.nameck.specs.Naming.{before-statement, with-label, declared-as, with-math, Column, owner-by, global-by, Progress, Ahead, AtMath, SomeMath, MathNamed, AtLabel, SomeLabel, LabelNamed, declaring, SomeStatement, StatementNamed, Readable, SomeRead, AllNamed}
 use Rattle.nameck.proofs.Atoms.{atoms-few}
 use Rattle.nameck.proofs.Search.{names-length}
+use Rattle.nameck.proofs.Links.{none-linked}
 use Rattle.nameck.proofs.Progress.{progress-count}
 
 -- ---- the kind that declares
@@ -195,10 +196,8 @@ module _ {t w : List ℕ} {n rows : ℕ} {l : List Statement} (h : Readable t w 
         names = refl;
         owners = empty-column 0 _ (omega arith) (λ y. refl);
         globals = empty-column 1 _ (omega arith) (λ y. refl);
-        blank = record {
-          symbols = λ a c g k b. r .between (symbol-cell n a c) (omega (arith, r .shape .few)) (omega arith);
-          until = λ a g. r .between (name-cell n a 2) (omega (arith, r .shape .few)) (omega arith);
-        };
+        linked = none-linked (λ i g k. r .between i (omega (arith, r .shape .few)) k);
+        blank = record { symbols = λ a c g k b. r .between (symbol-cell n a c) (omega (arith, r .shape .few)) (omega arith) };
       }
 
 -- ---- at the end all are
@@ -268,8 +267,7 @@ module _ {t w : List ℕ} {n m : ℕ} {l : List Statement} (h : Progress t w n (
   end-fresh : Fresh w n l
   end-fresh =
       record {
-        symbols = λ a c g k b. h .blank .symbols a c (omega (arith, h .text .few)) k b;
-        until = λ a g. h .blank .until a (omega (arith, h .text .few));
+        symbols = λ a c g k b. h .blank .symbols a c (omega (arith, h .text .few)) (omega arith) b;
       }
 
 -- ---- the walk over the statements: s of them are named

@@ -44,7 +44,6 @@ pub record Named (t w : List ℕ) (n : ℕ) (l : List Statement) : Type 0 where
   pub owns : (a : ℕ) → a < length (atoms l) → word w (symbol-cell n a 0) ≡ owner-word (owner l (name-of l a))
   pub declares : (a : ℕ) → a < length (atoms l) → word w (symbol-cell n a 1) ≡ global-word (global l (name-of l a))
 
--- after naming, the other words of a symbol are 0, and so is the last word of a name
+-- after naming, the words of a symbol from 5 on are 0
 pub record Fresh (w : List ℕ) (n : ℕ) (l : List Statement) : Type 0 where
-  pub symbols : (a c : ℕ) → a < length (atoms l) → 2 ≤ c → c < 7 → word w (symbol-cell n a c) ≡ 0
-  pub until : (a : ℕ) → a < length (atoms l) → word w (name-cell n a 2) ≡ 0
+  pub symbols : (a c : ℕ) → a < length (atoms l) → 5 ≤ c → c < 7 → word w (symbol-cell n a c) ≡ 0

@@ -12,12 +12,13 @@ use Rattle.paper.specs.Statements.{labelled, Statement, none-end}
 use Rattle.paper.specs.Names.{named, bearer, labels, Declared, declares, declared, declares-name}
 use Rattle.paper.specs.Variables.{member, sights}
 use Rattle.paper.specs.Checks.{token}
-use Rattle.area.specs.Cells.{statement-cell, name-cell, symbol-cell, math-cell, word}
+use Rattle.area.specs.Cells.{statement-cell, symbol-cell, math-cell, word}
 use Rattle.reader.specs.Rows.{stmt, before, label-of, Stands, Shape, Rows}
 use Rattle.facts.specs.Facts.{Facts}
 use Rattle.nameck.specs.Atoms.{bytes-of, names-in, atoms, atom-of}
 use Rattle.nameck.specs.Named.{owner-word, global-word, Named, Fresh}
-use Rattle.nameck.specs.Table.{names-of, Spans}
+use Rattle.nameck.specs.Links.{Linked}
+use Rattle.nameck.specs.Table.{name-at, names-of, Spans}
 
 -- ---- what is done: of the statements, k labels and p math tokens; by that the names, bearers and declarations
 pub record Done : Type 0 where
@@ -107,8 +108,7 @@ pub record Maths (w : List ℕ) (n : ℕ) (l : List Statement) (p : ℕ) : Type 
 
 -- the words that naming leaves 0
 pub record Blank (w : List ℕ) (n : ℕ) : Type 0 where
-  pub symbols : (a c : ℕ) → a < n → 2 ≤ c → c < 7 → word w (symbol-cell n a c) ≡ 0
-  pub until : (a : ℕ) → a < n → word w (name-cell n a 2) ≡ 0
+  pub symbols : (a c : ℕ) → a < n → 5 ≤ c → c < 7 → word w (symbol-cell n a c) ≡ 0
 
 -- x is done, with m names
 pub record Progress (t w : List ℕ) (n : ℕ) (x : Done) (m : ℕ) : Type 0 where
@@ -118,6 +118,7 @@ pub record Progress (t w : List ℕ) (n : ℕ) (x : Done) (m : ℕ) : Type 0 whe
   pub maths : Maths w n (x .of) (x .maths)
   pub spans : Spans t w n m
   pub names : names-of t w n m ≡ sights (x .names) []
+  pub linked : Linked w n m (name-at t w n)
   pub owners : Column w n 0 (sights (x .names) []) (owner-by (x .bearers))
   pub globals : Column w n 1 (sights (x .names) []) (global-by (x .declared))
   pub blank : Blank w n

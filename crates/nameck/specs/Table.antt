@@ -1,6 +1,7 @@
 -- The names in the rows of the work area, and what one step of naming does with them.
 -- `t` is the text, `w` the words, `n` is N + 1.
 use mathlib.Core.Path.{_≡_}
+use mathlib.Core.Logic.{_≢_}
 use mathlib.Core.List.{List, [], _∷_, _++_}
 use Prim.Native.Nat.{ℕ, zero, suc, _+_, _-_, _*_, _<_, _≤_}
 use lib.Dec.{eqb}
@@ -8,6 +9,7 @@ use lib.ListN.{length, take, drop, set}
 use Rattle.paper.specs.Base.{choose}
 use Rattle.paper.specs.Variables.{member, see, index}
 use Rattle.area.specs.Cells.{name-cell, symbol-cell, word, Only}
+use Rattle.nameck.specs.Links.{Linked}
 
 -- the name in the a-th row, and the first m names
 unfoldable pub name-at : List ℕ → List ℕ → ℕ → ℕ → List ℕ
@@ -34,16 +36,18 @@ pub record Spans (t w : List ℕ) (n m : ℕ) : Type 0 where
 unfoldable pub with-name : List ℕ → ℕ → ℕ → ℕ → ℕ → List ℕ
 with-name w n m start stop = set (set w (name-cell n m 0) start) (name-cell n m 1) stop
 
--- a name looked for, and added if it is new. Only the blocks of names and buckets change, and the last word of a name does not
+-- a name looked for, and added if it is new. Only the blocks of names and buckets change, and word 2 of the symbols
 pub record CanIntern (t w : List ℕ) (n m start stop : ℕ) : Type 0 where
   pub spans : Spans t w n m
+  pub linked : Linked w n m (name-at t w n)
   pub free : m < n
   pub order : start ≤ stop
   pub fits : stop ≤ length t
 
 pub record Interns (t w v : List ℕ) (n m start stop atom k : ℕ) : Type 0 where
-  pub only : Only (4 * n) (8 * n) w v
-  pub until : (a : ℕ) → word v (name-cell n a 2) ≡ word w (name-cell n a 2)
+  pub only : Only (4 * n) (15 * n) w v
+  pub symbols : (a c : ℕ) → a < n → c < 7 → c ≢ 2 → word v (symbol-cell n a c) ≡ word w (symbol-cell n a c)
+  pub linked : Linked v n k (name-at t v n)
   pub names : names-of t v n k ≡ see (names-of t w n m) (take (stop - start) (drop start t))
   pub atom-is : atom ≡ index (names-of t v n k) (take (stop - start) (drop start t))
   pub start-stop : (a : ℕ) → a < k → word v (name-cell n a 0) ≤ word v (name-cell n a 1)

@@ -1,11 +1,16 @@
 // A name looked for among those seen so far, and added if it is new: the atom is its row.
-// A plain walk over the distinct names; `find` promises the place in their list, whatever way it goes.
+// A name has one of n / 4 + 1 buckets by its hash. From the bucket's head each name has two links to later names, and a search
+// follows one of them by the next bit of the hash, and after those by the bits of the bytes.
 use paper::Atom;
 ghost use mathlib.Core.Path.{_≡_};
 ghost use Prim.Native.Nat.{_+_, _*_, _<_, _≤_};
 ghost use lib.ListN.{length};
 ghost use Rattle.paper.specs.Base.{sameb};
 ghost use Rattle.nameck.specs.Table.{name-at, names-of, found, Spans, with-name, CanIntern, Interns};
+ghost use Rattle.nameck.specs.Links.{hash, head-by, fork, link, Linked, Ended};
+
+// the word of a name that is its left link while naming; the right link is the symbol's NESTED
+const LEFT: usize = 2;
 
 /// The atom of a name, and the number of distinct names afterwards.
 pub struct Interned {
@@ -40,19 +45,81 @@ pub fn is_named(text: &[u8], work: &[u32], n: usize, row: usize, s: &[u8]) -> bo
     same(&text[start..stop], s)
 }
 
-/// The row + 1 of the name with these bytes; 0 if there is none.
-pub fn find(text: &[u8], work: &[u32], n: usize, names: usize, s: &[u8]) -> usize
-    requires { ⌜ Spans (now text) (now work) n names ⌝ }
-    ensures { λ r. ⌜ r ≡ found (names-of (now (text .entry)) (now (work .entry)) n names) (now (s .entry)) ⌝ }
+/// A number below 2^32 made from the bytes of a name.
+pub fn hash_of(s: &[u8]) -> u64
+    ensures { λ r. ⌜ (r ≡ hash (now (s .entry))) × (r < 4294967296) ⌝ }
 {
-    let mut row = 0;
-    while row < names {
-        if is_named(text, work, n, row, s) {
-            return row + 1;
-        }
-        row += 1;
+    let mut h: u64 = 0;
+    let mut k = 0;
+    while k < s.len() {
+        h = (h + s[k] as u64) * 2654435769 % 4294967296;
+        k += 1;
     }
-    0
+    h
+}
+
+/// The head of the bucket of a name with this hash.
+pub fn head_of(n: usize, h: u64) -> usize
+    requires { ⌜ (n ≤ 16777217) × (h < 4294967296) ⌝ }
+    ensures { λ r. ⌜ r ≡ head-by n h ⌝ }
+{
+    let b = h * (n as u64 / 4 + 1) / 4294967296;
+    area::bucket(n, b as usize)
+}
+
+/// Whether the search for a name with this hash goes right at depth d: by the bits of the hash, and then by those of the bytes.
+pub fn fork_at(s: &[u8], h: u64, d: usize) -> bool
+    requires { ⌜ h ≡ hash (now s) ⌝ }
+    ensures { λ r. ⌜ r ≡ fork (now (s .entry)) d ⌝ }
+{
+    if d < 32 {
+        return (h >> d) % 2 == 1;
+    }
+    let i = (d - 32) / 8;
+    if s.len() <= i {
+        return false;
+    }
+    (s[i] >> ((d - 32) % 8)) % 2 == 1
+}
+
+/// The cell of the left or of the right link of a name.
+pub fn link_of(n: usize, row: usize, right: bool) -> usize
+    requires { ⌜ (n < 4294967296) × (row < 4294967296) ⌝ }
+    ensures { λ r. ⌜ r ≡ link n row right ⌝ }
+{
+    if right {
+        return area::symbol(n, row, area::NESTED);
+    }
+    area::name(n, row, LEFT)
+}
+
+/// Where a search ends: the row + 1 of the name, or 0 and the cell of an empty link.
+pub struct Place {
+    pub row: usize,
+    pub cell: usize,
+}
+
+/// The row + 1 of the name with these bytes; 0 if there is none.
+pub fn find(text: &[u8], work: &[u32], n: usize, names: usize, s: &[u8]) -> Place
+    requires { ⌜ Spans (now text) (now work) n names × Linked (now work) n names (name-at (now text) (now work) n) × (0 < n) ⌝ }
+    ensures { λ r. ⌜ (r .row ≡ found (names-of (now (text .entry)) (now (work .entry)) n names) (now (s .entry))) × (r .row ≡ 0 → Ended (now (work .entry)) n (now (s .entry)) (r .cell)) ⌝ }
+{
+    let h = hash_of(s);
+    let mut cell = head_of(n, h);
+    let mut row = work[cell] as usize;
+    let mut d = 0;
+    while row != 0 {
+        if is_named(text, work, n, row - 1, s) {
+            return Place {
+                row: row,
+                cell: cell,
+            };
+        }
+        cell = link_of(n, row - 1, fork_at(s, h, d));
+        row = work[cell] as usize;
+        d += 1;
+    }
+    Place { row: 0, cell: cell }
 }
 
 /// Makes the row of a new name.
@@ -76,14 +143,16 @@ pub fn intern(
     requires { ⌜ CanIntern (now text) (now work) n names start stop ⌝ }
     ensures { λ r. ⌜ Interns (now (text .entry)) (now (work .entry)) (now (work .exit)) n names start stop (r .atom .0) (r .names) ⌝ }
 {
-    let row = find(text, work, n, names, &text[start..stop]);
-    if row != 0 {
+    let p = find(text, work, n, names, &text[start..stop]);
+    if p.row != 0 {
         return Interned {
-            atom: Atom((row - 1) as u32),
+            atom: Atom((p.row - 1) as u32),
             names: names,
         };
     }
+    let cell = p.cell;
     add_name(work, n, names, start, stop);
+    work[cell] = names as u32 + 1;
     Interned {
         atom: Atom(names as u32),
         names: names + 1,

@@ -2,6 +2,7 @@
 -- White space is bytes 9, 10, 12, 13, 32. Printable is 33 to 126.
 use mathlib.Core.Bool.{Bool}
 use Prim.Native.Nat.{ℕ}
+use Prim.Native.Char.{code}
 use lib.Dec.{eqb}
 use Rattle.paper.specs.Base.{and, or, not, within}
 
@@ -16,7 +17,10 @@ unfoldable pub label-byte : ℕ → Bool
 label-byte b =
     or (within 65 90 b) (or (within 97 122 b) (or (within 48 57 b) (or (eqb b 45) (or (eqb b 95) (eqb b 46)))))
 
+abbrev pub dollar : ℕ
+dollar = code "$"
+
 -- printable without `$`
 unfoldable pub math-byte : ℕ → Bool
 unfolding printable
-math-byte b = and (printable b) (not (eqb b 36))
+math-byte b = and (printable b) (not (eqb b dollar))

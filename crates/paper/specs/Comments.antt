@@ -3,7 +3,7 @@
 use mathlib.Core.List.{List, [], _∷_, _++_}
 use Prim.Native.Nat.{ℕ}
 use Rattle.paper.specs.Base.{choose}
-use Rattle.paper.specs.Tokens.{Token, key}
+use Rattle.paper.specs.Tokens.{Token, key-comment, key-uncomment, key}
 
 -- outside comments, or inside the one whose `$(` has this offset
 pub data Place : Type 0 where
@@ -11,8 +11,8 @@ pub data Place : Type 0 where
   inside : ℕ → Place
 
 abbrev pub next : Place → Token → Place
-next outside t = choose (key 40 t) (inside (t .at)) outside
-next (inside o) t = choose (key 41 t) outside (inside o)
+next outside t = choose (key key-comment t) (inside (t .at)) outside
+next (inside o) t = choose (key key-uncomment t) outside (inside o)
 
 -- the place after some tokens
 unfoldable pub after : List Token → Place → Place
@@ -20,7 +20,7 @@ after [] p = p
 after (t ∷ l) p = after l (next p t)
 
 abbrev pub shown : Place → Token → List Token
-shown outside t = choose (key 40 t) [] (t ∷ [])
+shown outside t = choose (key key-comment t) [] (t ∷ [])
 shown (inside o) t = []
 
 -- the tokens outside comments

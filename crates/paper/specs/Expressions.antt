@@ -1,9 +1,10 @@
 -- Scope rules: the pool, expressions and hypotheses of a frame.
 -- Each variable ends a fragment; what follows the last is the rump. Hypotheses go by offset.
+use mathlib.Core.Path.{_≡_, refl}
 use mathlib.Core.List.{List, [], _∷_, _++_}
 use Prim.Native.Nat.{ℕ, _+_}
 use lib.ListN.{length}
-use Rattle.paper.specs.Base.{choose, gather}
+use Rattle.paper.specs.Base.{choose, codes, sameb, gather}
 use Rattle.paper.specs.State.{Symbol, con, var, Formula, Hyp, float, essential}
 use Rattle.paper.specs.Variables.{member, index}
 
@@ -49,6 +50,12 @@ unfoldable pub fragments : List (List ℕ) → List Symbol → ℕ → ℕ → L
 fragments l [] a b = []
 fragments l (x ∷ m) a b = fragment-at l x a b ++ fragments l m (begun x a b) (reached x b)
 
+-- `( y -> x )`, where x is variable 0 and y is variable 1: the pool is `(->)`, its first byte ends the first fragment
+pub fragments-shown : fragments (codes "x" ∷ codes "y" ∷ []) (con (codes "(") ∷ var (codes "y") ∷ con (codes "->") ∷ var (codes "x") ∷ con (codes ")") ∷ []) 0 0 ≡ record { from = 0; to = 1; variable = 1 } ∷ record { from = 1; to = 3; variable = 0 } ∷ []
+unfolding fragments index sameb
+fragments-shown = refl
+
+-- where the rump starts: after the last variable
 unfoldable pub rump : List Symbol → ℕ → ℕ → ℕ
 rump [] a b = a
 rump (x ∷ m) a b = rump m (begun x a b) (reached x b)

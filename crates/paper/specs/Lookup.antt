@@ -1,11 +1,13 @@
 -- Look-up walks the whole frame buffer first. A record is well framed if four bytes remain, its length is at least 2 and
 -- fits the buffer, its kind is 1, 2 or 3, and its label lies within it.
-use mathlib.Core.List.{List, [], _∷_}
+use mathlib.Core.Path.{_≡_, refl}
+use mathlib.Core.List.{List, [], _∷_, _++_}
 use mathlib.Core.Option.{Option, none, some}
 use Prim.Native.Nat.{ℕ, zero, suc, _+_, _*_}
 use lib.Dec.{eqb, ltb}
 use lib.ListN.{length, getD, take, drop}
-use Rattle.paper.specs.Base.{choose, or, sameb}
+use Rattle.paper.specs.Base.{choose, or, codes, sameb}
+use Rattle.paper.specs.Records.{le, u16, u32, string, framed}
 use Rattle.paper.specs.declared.Found.{Found}
 use Rattle.paper.specs.declared.Found.the-variants.{At, Malformed, Missing}
 
@@ -58,6 +60,11 @@ search-from n [] o k = Missing
 search-from n (b ∷ l) o (suc k) = search-from n l (suc o) k
 search-from n (b ∷ l) o zero =
     first-of (label-of (b ∷ l)) n o (search-from n l (suc o) (3 + u32-at (b ∷ l) 0))
+
+-- one byte to pass, then a record of b and a record of a, each of 15 bytes
+pub search-shown : search-from (codes "a") (7 ∷ (framed 2 (u32 0 ++ string (codes "b")) ++ framed 2 (u32 9 ++ string (codes "a")))) 20 1 ≡ At 36
+unfolding le u16 u32 string framed sameb u16-at u32-at label-of search-from
+search-shown = refl
 
 -- the offset of the first record with that label, byte for byte
 unfoldable pub look-up : List ℕ → List ℕ → Found

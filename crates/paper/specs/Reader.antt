@@ -8,7 +8,7 @@ use Prim.Native.Nat.{ℕ, zero, suc, _+_, _*_}
 use lib.Dec.{leb, ltb}
 use lib.ListN.{length}
 use Rattle.paper.specs.Base.{choose, and}
-use Rattle.paper.specs.Tokens.{Token, tokens, label-token, math-token, key, bad-from}
+use Rattle.paper.specs.Tokens.{Token, tokens, label-token, math-token, key-c, key-v, key-d, key-f, key-e, key-a, key-p, key-proof, key-end, key-group, key-ungroup, key, bad-from}
 use Rattle.paper.specs.Comments.{Place, outside, inside, after, visible}
 use Rattle.paper.specs.Statements.{Kind, $c, $v, $d, $f, $e, $a, $p, Statement, none-end, Item, opens, closes, states, ends}
 use Rattle.paper.specs.declared.Refusal.{Refusal}
@@ -24,12 +24,12 @@ pub data Mode : Type 0 where
 
 abbrev pub plain-kind : Token → Option Kind
 plain-kind t =
-    choose (key 99 t) (some $c) (choose (key 118 t) (some $v) (choose (key 100 t) (some $d) none))
+    choose (key key-c t) (some $c) (choose (key key-v t) (some $v) (choose (key key-d t) (some $d) none))
 
 abbrev pub label-kind : Token → Option Kind
 label-kind t =
-    choose (key 102 t) (some $f)
-    (choose (key 101 t) (some $e) (choose (key 97 t) (some $a) (choose (key 112 t) (some $p) none)))
+    choose (key key-f t) (some $f)
+    (choose (key key-e t) (some $e) (choose (key key-a t) (some $a) (choose (key key-p t) (some $p) none)))
 
 -- whether one more math token may follow so many, whether they are enough, and the keyword that closes them
 abbrev pub room : Kind → ℕ → Bool
@@ -51,13 +51,13 @@ least $a = 1
 least $p = 1
 
 abbrev pub closing : Kind → ℕ
-closing $c = 46
-closing $v = 46
-closing $d = 46
-closing $f = 46
-closing $e = 46
-closing $a = 46
-closing $p = 61
+closing $c = key-end
+closing $v = key-end
+closing $d = key-end
+closing $f = key-end
+closing $e = key-end
+closing $a = key-end
+closing $p = key-proof
 
 -- where the reader is after a token, at which depth, and the items it has; or the offset of the token not allowed
 pub data Step : Type 0 where
@@ -92,15 +92,15 @@ closed $p d o n m = go (proof o n m []) d []
 -- the token t, read in a mode at a depth; the items are those that it ends
 unfoldable pub allow : Mode → ℕ → Token → Step
 allow start d t =
-    choose (key 123 t) (go start (suc d) (opens (t .at) ∷ []))
-    (choose (key 125 t) (shut d t) (begin (plain-kind t) d t))
+    choose (key key-group t) (go start (suc d) (opens (t .at) ∷ []))
+    (choose (key key-ungroup t) (shut d t) (begin (plain-kind t) d t))
 allow (named n) d t = keyword (label-kind t) d n t
 allow (math k o n m) d t =
     choose (and (math-token t) (room k (length m))) (go (math k o n (m ++ (t ∷ []))) d [])
     (choose (and (key (closing k) t) (leb (least k) (length m))) (closed k d o n m) (stop (t .at)))
 allow (proof o n m p) d t =
     choose (math-token t) (go (proof o n m (p ++ (t ∷ []))) d [])
-    (choose (and (key 46 t) (leb 1 (length p))) (go start d (statement $p o n m p)) (stop (t .at)))
+    (choose (and (key key-end t) (leb 1 (length p))) (go start d (statement $p o n m p)) (stop (t .at)))
 
 abbrev pub with-items : List Item → Step → Step
 with-items i (go m d j) = go m d (i ++ j)

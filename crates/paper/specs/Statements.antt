@@ -1,6 +1,7 @@
 -- The reader: statements, groups and ends.
 -- The address of a statement is the offset of its first token; its end is the offset of the `$}` closing its
 -- innermost group, or none at the outermost level (4,294,967,295).
+use mathlib.Core.Path.{_≡_, refl}
 use mathlib.Core.Bool.{Bool, true, false}
 use mathlib.Core.List.{List, [], _∷_}
 use Prim.Native.Nat.{ℕ}
@@ -59,6 +60,11 @@ unfoldable pub closers : List Item → List ℕ → List ℕ
 closers [] l = l
 closers (x ∷ i) l = onto x (closers i l)
 
+-- `$}` at 7, `${` at 9, `$}` at 12 and at 15
+pub closers-shown : closers (closes 7 ∷ opens 9 ∷ closes 12 ∷ closes 15 ∷ []) [] ≡ 7 ∷ 15 ∷ []
+unfolding closers
+closers-shown = refl
+
 abbrev pub ended : ℕ → Statement → Statement
 ended q s =
     record { kind = s .kind; at = s .at; end = q; label = s .label; math = s .math; proof = s .proof }
@@ -72,3 +78,8 @@ with-end (states s) q r = ended q s ∷ r
 unfoldable pub ends : List Item → List ℕ → List Statement
 ends [] l = []
 ends (x ∷ i) l = with-end x (top (closers i l)) (ends i l)
+
+-- `${ s ${ $} $} s`
+pub ends-shown : (s : Statement) → ends (opens 0 ∷ states s ∷ opens 9 ∷ closes 12 ∷ closes 15 ∷ states s ∷ []) [] ≡ ended 15 s ∷ ended none-end s ∷ []
+unfolding closers ends
+ends-shown s = refl

@@ -1,4 +1,4 @@
-// The types that the definitions and the code share: four kinds of number, and the answers.
+// The types that the definitions and the code share: the kinds of number, and the answers.
 // `specs/Answer.antt` gives document 01's number, place and lengths for each case of an answer.
 
 /// A distinct name, numbered by first sight.
@@ -12,6 +12,15 @@ pub struct TokenOffset(pub u32);
 
 /// The place of a math token in its statement, from 0.
 pub struct TokenIndex(pub u32);
+
+/// The row of a statement in the work area.
+pub struct StatementRow(pub u32);
+
+/// The row of a math token in the work area.
+pub struct TokenRow(pub u32);
+
+/// The number of a variable in a frame, by first sight.
+pub struct VariableNumber(pub u32);
 
 /// Numbers 1 to 9, each with its place; number 1 has place 0.
 pub enum Refusal {

@@ -18,6 +18,8 @@ use Rattle.paper.specs.declared.Refusal.the-variants.{OpenComment, BadToken, Op
 use Rattle.paper.proofs.Tests.{split}
 use Rattle.token.specs.Words.{tokens-from, token-of}
 use Rattle.token.specs.declared.cursor.Span.{Span}
+use Rattle.token.specs.declared.cursor.Cursor.{Cursor}
+use Rattle.token.proofs.Counts.{few-tokens}
 use Rattle.reader.specs.Rows.{kind-number}
 use Rattle.reader.specs.Passed.{Shows, Seen}
 use Rattle.reader.specs.Kinds.{least-number, most-number, closing-number}
@@ -30,8 +32,8 @@ use Rattle.reader.specs.declared.run.Run.{Run}
 use Rattle.reader.specs.declared.run.Closing.the-variants as closing′
 use Rattle.reader.specs.declared.state.State.{State}
 use Rattle.reader.specs.declared.state.Head.{Head}
-use Rattle.reader.proofs.Passes.{passed-few, passed-shows}
-use Rattle.reader.proofs.Grammar.{many-math, many-proof, reached-run, reached-token, reached-few, few-tokens, refuse-token, refuse-open, reach-end}
+use Rattle.reader.proofs.Passes.{passed-few}
+use Rattle.reader.proofs.Grammar.{many-math, many-proof, reached-run, reached-token, reached-few, refuse-token, refuse-open, reach-end}
 use Rattle.reader.proofs.Keeping.{words-statement}
 
 -- ---- kinds by their numbers
@@ -93,7 +95,7 @@ closed-plain $p h d o n m = absurd (h refl)
 -- ---- what closes a run, where the grammar asks for a keyword after enough tokens
 module _ {t : List ℕ} {e c d : ℕ} {m : Mode} {i : List Item} (r : Reached t e c (go m d i)) (v : Visible) (s : Seen t e v) (z : Step) (count few : ℕ) (k : List ℕ)
     (f : (n : ℕ) → finish m d i n ≡ refused (OpenText n))
-    (a : (x : Span) → v ≡ vis.Token x → allow m d (token-of t x) ≡ choose (and (sameb (token-of t x .bytes) k) (leb few count)) z (stop (x .start))) where
+    (a : (x : Span) (p : Cursor) → v ≡ vis.Token x p → allow m d (token-of t x) ≡ choose (and (sameb (token-of t x .bytes) k) (leb few count)) z (stop (x .start))) where
   pub close-refused : (y : Refusal) → closing′.Refused y ≡ closing-of t v count few k → items (tokens t) (length t) ≡ refused y
   close-refused y q = by v refl q
     where
@@ -104,37 +106,39 @@ module _ {t : List ℕ} {e c d : ℕ} {m : Mode} {i : List Item} (r : Reached t 
       by (vis.Open o) p q =
           let n : y ≡ OpenComment o = cc in
           refuse-open r (rw p at s) (length t) ∙ rw n
-      by (vis.Token x) p q =
+      by (vis.Token x y′) p q =
           split (and (sameb (token-of t x .bytes) k) (leb few count))
           (λ b.
-          let g : closing′.Refused y ≡ closing′.At x = q ∙ rw b in
+          let g : closing′.Refused y ≡ closing′.At y′ = q ∙ rw b in
           let w : _≡_ {A = ℕ} 0 1 = cc in
           absurd (omega arith))
           (λ b.
           let g : closing′.Refused y ≡ closing′.Refused (BadToken (x .start)) = q ∙ rw b in
           let n : y ≡ BadToken (x .start) = cc in
-          refuse-token (reached-token {z = stop (x .start)} r (rw p at s) (a x p ∙ rw b)) (length t) ∙ rw n)
+          refuse-token (reached-token {z = stop (x .start)} r (rw p at s) (a x y′ p ∙ rw b)) (length t) ∙ rw n)
 
-  pub close-at : (x : Span) → closing′.At x ≡ closing-of t v count few k → Shows t e x × Reached t (x .stop) (c + 1) (with-items i z) × (few ≤ count)
-  close-at x q = by v refl q
+  pub close-at : (o : Cursor) → closing′.At o ≡ closing-of t v count few k
+      → (length (tokens-from t (o .at)) < length (tokens-from t e)) × Reached t (o .at) (c + 1) (with-items i z) × (few ≤ count)
+  close-at o q = by v refl q
     where
-      by : (u : Visible) → v ≡ u → closing′.At x ≡ closing-of t u count few k → Shows t e x × Reached t (x .stop) (c + 1) (with-items i z) × (few ≤ count)
+      by : (u : Visible) → v ≡ u → closing′.At o ≡ closing-of t u count few k
+          → (length (tokens-from t (o .at)) < length (tokens-from t e)) × Reached t (o .at) (c + 1) (with-items i z) × (few ≤ count)
       by vis.End p q = let w : _≡_ {A = ℕ} 0 1 = cc in absurd (omega arith)
-      by (vis.Open o) p q = let w : _≡_ {A = ℕ} 0 1 = cc in absurd (omega arith)
-      by (vis.Token y) p q =
+      by (vis.Open f) p q = let w : _≡_ {A = ℕ} 0 1 = cc in absurd (omega arith)
+      by (vis.Token y y′) p q =
           split (sameb (token-of t y .bytes) k)
           (λ b₁. split (leb few count)
           (λ b₂.
-          let g : closing′.At x ≡ closing′.At y = q ∙ rw (b₁, b₂) in
-          let n : x ≡ y = cc in
-          let h : Shows t e y = rw p at s in
-          rw n (h, reached-token {z = z} r h (a y p ∙ rw (b₁, b₂)), leb-true few count b₂))
+          let g : closing′.At o ≡ closing′.At y′ = q ∙ rw (b₁, b₂) in
+          let n : o ≡ y′ = cc in
+          let h : Shows t e y y′ = rw p at s in
+          rw n (omega (arith, passed-few (h .passed)), reached-token {z = z} r h (a y y′ p ∙ rw (b₁, b₂)), leb-true few count b₂))
           (λ b₂.
-          let g : closing′.At x ≡ closing′.Refused (BadToken (y .start)) = q ∙ rw (b₁, b₂) in
+          let g : closing′.At o ≡ closing′.Refused (BadToken (y .start)) = q ∙ rw (b₁, b₂) in
           let w : _≡_ {A = ℕ} 0 1 = cc in
           absurd (omega arith)))
           (λ b₁.
-          let g : closing′.At x ≡ closing′.Refused (BadToken (y .start)) = q ∙ rw b₁ in
+          let g : closing′.At o ≡ closing′.Refused (BadToken (y .start)) = q ∙ rw b₁ in
           let w : _≡_ {A = ℕ} 0 1 = cc in
           absurd (omega arith))
 
@@ -143,7 +147,7 @@ module _ {t w : List ℕ} {n : ℕ} {s : State} {h : Head} (b : Begun t w n s h)
   small : n ≤ 16777217
   small = omega (arith, b .words .size, b .words .short, few-tokens t)
 
-  pub run-room : RunRoom t w n (h .from) (s .maths)
+  pub run-room : RunRoom t w n (h .from .at) (s .maths)
   run-room =
       record {
         room = b .words .room;
@@ -155,8 +159,8 @@ module _ {t w : List ℕ} {n : ℕ} {s : State} {h : Head} (b : Begun t w n s h)
       }
 
   -- a run of one math token or more: its row, and the state after the statement
-  module _ {u : List ℕ} {most to count : ℕ} (r : Running t w u n (h .from) most (s .maths) to count) (some : 1 ≤ count) {e c : ℕ} where
-    pub row-room : {z : Step} → Reached t e c z → s .rows + s .items + s .maths + 2 + count ≤ c → RowRoom u s h to count
+  module _ {u : List ℕ} {most to count : ℕ} (r : Running t w u n (h .from .at) most (s .maths) to count) (some : 1 ≤ count) {e : Cursor} {c : ℕ} where
+    pub row-room : {z : Step} → Reached t (e .at) c z → s .rows + s .items + s .maths + 2 + count ≤ c → RowRoom u s h to count
     row-room q l =
         let f = reached-few q in
         let len = r .only .len in
@@ -172,11 +176,11 @@ module _ {t w : List ℕ} {n : ℕ} {s : State} {h : Head} (b : Begun t w n s h)
         }
 
     pub kept-held : {v : List ℕ} {st : State} (ps : List Token)
-        → Reached t e c (go start (s .depth) (b .found ++ statement (b .kind) (h .at) (b .name) (r .ms) ps))
+        → Reached t (e .at) c (go start (s .depth) (b .found ++ statement (b .kind) (h .at) (b .name) (r .ms) ps))
         → s .rows + s .items + s .maths + 2 + count ≤ c
         → v ≡ with-row u (s .rows) h to (s .maths) count → st ≡ next-state s count e
-        → length (tokens-from t e) < length (tokens-from t (s .at))
-        → Held t v n st × (length (tokens-from t (st .at)) < length (tokens-from t (s .at)))
+        → length (tokens-from t (e .at)) < length (tokens-from t (s .cursor .at))
+        → Held t v n st × (length (tokens-from t (st .cursor .at)) < length (tokens-from t (s .cursor .at)))
     kept-held {v} {st} ps q l ev es less =
         let f = reached-few q in
         rw (ev, es) (
@@ -191,11 +195,11 @@ module _ {t w : List ℕ} {n : ℕ} {s : State} {h : Head} (b : Begun t w n s h)
         )
 
   -- the math string is read
-  module _ {u : List ℕ} {run : Run} (r : Ran t w u n (h .from) (most-number (h .kind)) (s .maths) run) where
+  module _ {u : List ℕ} {run : Run} (r : Ran t w u n (h .from .at) (most-number (h .kind)) (s .maths) run) where
     ms : List Token
     ms = r .run .ms
 
-    ran : Reached t (run .stop) (s .rows + s .items + s .maths + 1 + run .count) (go (math (b .kind) (h .at) (b .name) ms) (s .depth) (b .found))
+    ran : Reached t (run .stop .at) (s .rows + s .items + s .maths + 1 + run .count) (go (math (b .kind) (h .at) (b .name) ms) (s .depth) (b .found))
     unfolding ms
     ran =
         let k : run .count ≤ most-number (kind-number (b .kind)) = rw (ap most-number (b .code)) at (r .run .upto) in
@@ -206,12 +210,12 @@ module _ {t w : List ℕ} {n : ℕ} {s : State} {h : Head} (b : Begun t w n s h)
         (λ j l. rw zero-add (room-is (b .kind) j (omega arith) ∙ lt-ltb j (most-number (kind-number (b .kind))) (omega arith)))) in
         rw c at q
 
-    allows : (x : Span) → run .after ≡ vis.Token x
+    allows : (x : Span) (o : Cursor) → run .after ≡ vis.Token x o
         → allow (math (b .kind) (h .at) (b .name) ms) (s .depth) (token-of t x)
         ≡ choose (and (sameb (token-of t x .bytes) (36 ∷ closing-number (h .kind) ∷ [])) (leb (least-number (h .kind)) (run .count)))
         (closed (b .kind) (s .depth) (h .at) (b .name) ms) (stop (x .start))
     unfolding ms allow key
-    allows x p =
+    allows x o p =
         let few : run .count < 16777217 = omega (arith, passed-few (r .run .passed), reached-few (b .reached), b .words .size, small) in
         let e : and (math-token (token-of t x)) (room (b .kind) (length (r .run .ms))) ≡ false =
         rw (r .run .counted, room-is (b .kind) (run .count) few) (rw (p, ap most-number (b .code)) at (r .ends)) in
@@ -224,32 +228,32 @@ module _ {t w : List ℕ} {n : ℕ} {s : State} {h : Head} (b : Begun t w n s h)
     body-refused y q =
         close-refused ran (run .after) (r .after) _ (run .count) (least-number (h .kind)) (36 ∷ closing-number (h .kind) ∷ []) (λ n. refl) allows y q
 
-    closed-at : (x : Span) → closing′.At x ≡ closing-of t (run .after) (run .count) (least-number (h .kind)) (36 ∷ closing-number (h .kind) ∷ [])
-        → Shows t (run .stop) x
-        × Reached t (x .stop) (s .rows + s .items + s .maths + 1 + run .count + 1) (with-items (b .found) (closed (b .kind) (s .depth) (h .at) (b .name) ms))
+    closed-at : (o : Cursor) → closing′.At o ≡ closing-of t (run .after) (run .count) (least-number (h .kind)) (36 ∷ closing-number (h .kind) ∷ [])
+        → (length (tokens-from t (o .at)) < length (tokens-from t (run .stop .at)))
+        × Reached t (o .at) (s .rows + s .items + s .maths + 1 + run .count + 1) (with-items (b .found) (closed (b .kind) (s .depth) (h .at) (b .name) ms))
         × (least-number (h .kind) ≤ run .count)
-    closed-at x q =
-        close-at ran (run .after) (r .after) (closed (b .kind) (s .depth) (h .at) (b .name) ms) (run .count) (least-number (h .kind)) (36 ∷ closing-number (h .kind) ∷ []) (λ n. refl) allows x q
+    closed-at o q =
+        close-at ran (run .after) (r .after) (closed (b .kind) (s .depth) (h .at) (b .name) ms) (run .count) (least-number (h .kind)) (36 ∷ closing-number (h .kind) ∷ []) (λ n. refl) allows o q
 
-    module _ (x : Span) (q : closing′.At x ≡ closing-of t (run .after) (run .count) (least-number (h .kind)) (36 ∷ closing-number (h .kind) ∷ [])) where
+    module _ (o : Cursor) (q : closing′.At o ≡ closing-of t (run .after) (run .count) (least-number (h .kind)) (36 ∷ closing-number (h .kind) ∷ [])) where
       pub body-some : 1 ≤ run .count
-      body-some = omega (arith, closed-at x q .2, ap least-number (b .code), least-is (b .kind), least-some (b .kind))
+      body-some = omega (arith, closed-at o q .2, ap least-number (b .code), least-is (b .kind), least-some (b .kind))
 
-      pub body-less : length (tokens-from t (x .stop)) < length (tokens-from t (s .at))
-      body-less = omega (arith, b .less, passed-few (r .run .passed), passed-few (passed-shows (closed-at x q .0)))
+      pub body-less : length (tokens-from t (o .at)) < length (tokens-from t (s .cursor .at))
+      body-less = omega (arith, b .less, passed-few (r .run .passed), closed-at o q .0)
 
       -- any kind but `$p` is done
       pub body-plain : (h .kind ≡ 7 → ⊥)
-          → Reached t (x .stop) (s .rows + s .items + s .maths + 2 + run .count) (go start (s .depth) (b .found ++ statement (b .kind) (h .at) (b .name) (r .run .ms) []))
+          → Reached t (o .at) (s .rows + s .items + s .maths + 2 + run .count) (go start (s .depth) (b .found ++ statement (b .kind) (h .at) (b .name) (r .run .ms) []))
       unfolding ms
       body-plain k =
           let e : closed (b .kind) (s .depth) (h .at) (b .name) (r .run .ms) ≡ go start (s .depth) (statement (b .kind) (h .at) (b .name) (r .run .ms) []) =
           closed-plain (b .kind) (λ z. k (b .code ∙ z)) (s .depth) (h .at) (b .name) (r .run .ms) in
           let c : s .rows + s .items + s .maths + 1 + run .count + 1 ≡ s .rows + s .items + s .maths + 2 + run .count = omega arith in
-          rw (e, c) at (closed-at x q .1)
+          rw (e, c) at (closed-at o q .1)
 
       -- the proof of a `$p` follows
-      pub body-proof : h .kind ≡ 7 → Stated t u n s h (run .stop) (run .count) (x .stop)
+      pub body-proof : h .kind ≡ 7 → Stated t u n s h (run .stop .at) (run .count) (o .at)
       unfolding ms
       body-proof k =
           let p : b .kind ≡ $p = proof-kind (b .kind) (sym (b .code) ∙ k) in
@@ -263,40 +267,40 @@ module _ {t w : List ℕ} {n : ℕ} {s : State} {h : Head} (b : Begun t w n s h)
             run = r .run;
             some = body-some;
             kind = p;
-            reached = rw (e, append-nil, c) at (closed-at x q .1);
+            reached = rw (e, append-nil, c) at (closed-at o q .1);
             less = body-less;
           }
 
 -- ---- the proof of a `$p`
 module _ {t u : List ℕ} {n : ℕ} {s : State} {h : Head} {to count at : ℕ} (d : Stated t u n s h to count at) {run : Run} (r : Proved t at run) where
-  proved : Reached t (run .stop) (s .rows + s .items + s .maths + 2 + count + length (r .run .ps)) (go (proof (h .at) (d .begun .name) (d .run .ms) (r .run .ps)) (s .depth) (d .begun .found))
+  proved : Reached t (run .stop .at) (s .rows + s .items + s .maths + 2 + count + length (r .run .ps)) (go (proof (h .at) (d .begun .name) (d .run .ms) (r .run .ps)) (s .depth) (d .begun .found))
   proved =
       reached-run (d .reached) (r .run .passed)
       (many-proof (r .run .ps) [] (h .at) (d .begun .name) (d .run .ms) (s .depth) (d .begun .found) (r .run .maths))
 
-  allows-proof : (x : Span) → run .after ≡ vis.Token x
+  allows-proof : (x : Span) (o : Cursor) → run .after ≡ vis.Token x o
       → allow (proof (h .at) (d .begun .name) (d .run .ms) (r .run .ps)) (s .depth) (token-of t x)
       ≡ choose (and (sameb (token-of t x .bytes) (36 ∷ 46 ∷ [])) (leb 1 (run .count)))
       (go start (s .depth) (statement $p (h .at) (d .begun .name) (d .run .ms) (r .run .ps))) (stop (x .start))
   unfolding allow key
-  allows-proof x p =
+  allows-proof x o p =
       let e : math-token (token-of t x) ≡ false = rw p at (r .ends) in
       rw (e, r .run .some)
 
   pub proof-refused : (y : Refusal) → closing′.Refused y ≡ closing-of t (run .after) (run .count) 1 (36 ∷ 46 ∷ []) → items (tokens t) (length t) ≡ refused y
   proof-refused y q = close-refused proved (run .after) (r .after) _ (run .count) 1 (36 ∷ 46 ∷ []) (λ n. refl) allows-proof y q
 
-  module _ (x : Span) (q : closing′.At x ≡ closing-of t (run .after) (run .count) 1 (36 ∷ 46 ∷ [])) where
-    shown : Shows t (run .stop) x
-        × Reached t (x .stop) (s .rows + s .items + s .maths + 2 + count + length (r .run .ps) + 1) (go start (s .depth) (d .begun .found ++ statement $p (h .at) (d .begun .name) (d .run .ms) (r .run .ps)))
+  module _ (o : Cursor) (q : closing′.At o ≡ closing-of t (run .after) (run .count) 1 (36 ∷ 46 ∷ [])) where
+    shown : (length (tokens-from t (o .at)) < length (tokens-from t (run .stop .at)))
+        × Reached t (o .at) (s .rows + s .items + s .maths + 2 + count + length (r .run .ps) + 1) (go start (s .depth) (d .begun .found ++ statement $p (h .at) (d .begun .name) (d .run .ms) (r .run .ps)))
         × (1 ≤ run .count)
-    shown = close-at proved (run .after) (r .after) (go start (s .depth) (statement $p (h .at) (d .begun .name) (d .run .ms) (r .run .ps))) (run .count) 1 (36 ∷ 46 ∷ []) (λ n. refl) allows-proof x q
+    shown = close-at proved (run .after) (r .after) (go start (s .depth) (statement $p (h .at) (d .begun .name) (d .run .ms) (r .run .ps))) (run .count) 1 (36 ∷ 46 ∷ []) (λ n. refl) allows-proof o q
 
     pub proof-room : RowRoom u s h to count
     proof-room = row-room (d .begun) (d .run) (d .some) (shown .1) (omega arith)
 
-    pub proof-held : {v : List ℕ} {st : State} → v ≡ with-row u (s .rows) h to (s .maths) count → st ≡ next-state s count (x .stop)
-        → Held t v n st × (length (tokens-from t (st .at)) < length (tokens-from t (s .at)))
+    pub proof-held : {v : List ℕ} {st : State} → v ≡ with-row u (s .rows) h to (s .maths) count → st ≡ next-state s count o
+        → Held t v n st × (length (tokens-from t (st .cursor .at)) < length (tokens-from t (s .cursor .at)))
     proof-held ev es =
         kept-held (d .begun) (d .run) (d .some) (r .run .ps) (rw (← (d .kind)) at (shown .1)) (omega arith) ev es
-        (omega (arith, d .less, passed-few (r .run .passed), passed-few (passed-shows (shown .0))))
+        (omega (arith, d .less, passed-few (r .run .passed), shown .0))

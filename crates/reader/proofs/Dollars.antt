@@ -10,7 +10,7 @@ use native.Mathlib.Nat.{add-zero}
 use native.Mathlib.Numerals.{add-one}
 use native.Mathlib.Omega.{arith}
 use lib.Dec.{eqb}
-use lib.ListN.{length, getD, drop, drop-of-length-le}
+use lib.ListN.{length, getD, take, drop, drop-of-length-le}
 use lib.Seq.{drop-cons, drop-drop}
 use borrow.Author.Tests.{eq-eqb, ne-eqb, eqb-true}
 use Rattle.paper.specs.Base.{and, sameb}
@@ -20,10 +20,10 @@ use Rattle.paper.specs.Comments.{outside, inside, after, visible}
 use Rattle.paper.proofs.Tests.{split, clash, eqb-ne}
 use Rattle.token.specs.Words.{tokens-from}
 use Rattle.token.proofs.Classes.{white-low}
-use Rattle.reader.specs.Dollar.{gap-first, shuts, close-from, opens-at, seek, Dollar}
+use Rattle.token.proofs.Words.{tokens-end}
+use Rattle.reader.specs.Dollar.{gap-first, shuts, closes-first, close-from, opens-at, seek, Dollar}
 use Rattle.reader.specs.Passed.{Commented}
 use Rattle.reader.specs.declared.comment.Comment.the-variants as comment
-use Rattle.reader.proofs.Passes.{tokens-end}
 
 -- ---- by the list
 white-plain : (b : ℕ) → white b ≡ true → eqb b 36 ≡ false
@@ -159,27 +159,27 @@ module _ (t : List ℕ) (at i : ℕ) where
   seek-end h = rw drop-of-length-le
 
   -- no `$)` starts here
-  pub seek-step : at ≤ i → i < length t → and (opens-at t at i) (and (eqb (getD t i 0) 36) (shuts (drop (i + 1) t))) ≡ false
+  pub seek-step : at ≤ i → i < length t → and (opens-at t at i) (closes-first (drop i t)) ≡ false
       → seek t at (i + 1) ≡ seek t at i
   unfolding seek close-from
   seek-step l h e =
       let o : opens-at t at (i + 1) ≡ white (getD t i 0) = opens-later t at i l in
-      let q : and (opens-at t at i) (and (eqb (getD t i 0) 36) (shuts (drop (suc i) t))) ≡ false = rw add-one at e in
+      let q : and (opens-at t at i) (closes-first (getD t i 0 ∷ drop (suc i) t)) ≡ false = rw (drop-cons t i 0 h) at e in
       rw (o, drop-cons t i 0 h, q, add-one)
 
-  pub seek-here : i < length t → opens-at t at i ≡ true → getD t i 0 ≡ 36 → shuts (drop (i + 1) t) ≡ true → seek t at i ≡ some (i + 2)
+  pub seek-here : i < length t → and (opens-at t at i) (closes-first (drop i t)) ≡ true → seek t at i ≡ some (i + 2)
   unfolding seek close-from
-  seek-here h o d s =
-      let s′ : shuts (drop (suc i) t) ≡ true = rw add-one at s in
-      rw (drop-cons t i 0 h, o, eq-eqb (getD t i 0) 36 d, s′)
+  seek-here h e =
+      let q : and (opens-at t at i) (closes-first (getD t i 0 ∷ drop (suc i) t)) ≡ true = rw (drop-cons t i 0 h) at e in
+      rw (drop-cons t i 0 h, q)
 
 -- from `$` to `$`
 pub seek-over : (t : List ℕ) (at i m : ℕ) → at ≤ i → i + m ≤ length t → ((j : ℕ) → i ≤ j → j < i + m → getD t j 0 ≢ 36) → seek t at (i + m) ≡ seek t at i
 seek-over t at i zero l h f = rw add-zero
 seek-over t at i (suc m) l h f =
     let q : i + suc m ≡ (i + m) + 1 = omega arith in
-    let n : and (opens-at t at (i + m)) (and (eqb (getD t (i + m) 0) 36) (shuts (drop ((i + m) + 1) t))) ≡ false =
-    rw (ne-eqb (getD t (i + m) 0) 36 (f (i + m) (omega arith) (omega arith))) (and-none (opens-at t at (i + m))) in
+    let n : and (opens-at t at (i + m)) (closes-first (drop (i + m) t)) ≡ false =
+    rw (drop-cons t (i + m) 0 (omega arith), ne-eqb (getD t (i + m) 0) 36 (f (i + m) (omega arith) (omega arith))) (and-none (opens-at t at (i + m))) in
     rw q
     (seek-step t at (i + m) (omega arith) (omega arith) n
     ∙ seek-over t at i m l (omega arith) (λ j a b. f j a (omega arith)))
@@ -206,7 +206,7 @@ comment-none t at e =
       place = h p .1;
     }
 
-pub comment-some : (t : List ℕ) (at e : ℕ) → seek t at at ≡ some e → Commented t at (comment.Closed e)
+pub comment-some : (t : List ℕ) (at e : ℕ) → seek t at at ≡ some e → Commented t at (comment.Closed (record { at = e }))
 unfolding tokens-from
 comment-some t at e q =
     let h : Shut (toks (drop at t) at) (drop at t) at e = rw (sym (seek-start t at) ∙ q) at (closes (drop at t) at .0) in
@@ -229,11 +229,20 @@ module _ (t : List ℕ) (i : ℕ) where
   pub gap-some : i < length t → gap-first (drop i t) ≡ white (getD t i 0)
   gap-some h = rw (drop-cons t i 0 h)
 
-  pub shuts-none : length t ≤ i → shuts (drop i t) ≡ false
-  shuts-none h = rw drop-of-length-le
+  pub closes-none : i < length t → length t < i + 2 → closes-first (drop i t) ≡ false
+  closes-none h l =
+      let z : drop (suc i) t ≡ [] = drop-of-length-le t {i = suc i} (omega arith) in
+      rw (drop-cons t i 0 h, z) (and-none (eqb (getD t i 0) 36))
 
-  pub shuts-some : i < length t → shuts (drop i t) ≡ and (eqb (getD t i 0) 41) (gap-first (drop (i + 1) t))
-  shuts-some h = rw (drop-cons t i 0 h, add-one)
+  pub closes-some : i + 2 ≤ length t → closes-first (drop i t) ≡ and (sameb (take (i + 2 - i) (drop i t)) (36 ∷ 41 ∷ [])) (gap-first (drop (i + 2) t))
+  unfolding sameb
+  closes-some h =
+      let q : i + 2 - i ≡ 2 = omega arith in
+      let s : i + 2 ≡ suc (suc i) = omega arith in
+      rw (q, s, drop-cons t i 0 (omega arith), drop-cons t (suc i) 0 (omega arith))
+      (split (eqb (getD t i 0) 36)
+      (λ e. rw e (split (eqb (getD t (suc i) 0) 41) (λ f. rw f) (λ f. rw f)))
+      (λ e. rw e))
 
   pub opens-same : (at : ℕ) → i ≡ at → opens-at t at i ≡ true
   unfolding opens-at
@@ -259,10 +268,9 @@ module _ (t : List ℕ) (at : ℕ) {i k : ℕ} (l : at ≤ i) (s : seek t at i �
   loop-none h = comment-none t at (sym to-dollar ∙ seek-end t at k h)
 
   module _ (h : k < length t) where
-    pub loop-some : and (opens-at t at k) (shuts (drop (k + 1) t)) ≡ true → Commented t at (comment.Closed (k + 2))
+    pub loop-some : and (opens-at t at k) (closes-first (drop k t)) ≡ true → Commented t at (comment.Closed (record { at = k + 2 }))
     loop-some e =
-        let b = and-both (opens-at t at k) (shuts (drop (k + 1) t)) e in
-        comment-some t at (k + 2) (sym to-dollar ∙ seek-here t at k h (b .0) (d .here h) (b .1))
+        comment-some t at (k + 2) (sym to-dollar ∙ seek-here t at k h e)
 
-    pub loop-on : and (opens-at t at k) (shuts (drop (k + 1) t)) ≡ false → seek t at (k + 1) ≡ seek t at at
-    loop-on e = seek-step t at k (omega (arith, l, d .from)) h (rw (eq-eqb (getD t k 0) 36 (d .here h)) e) ∙ to-dollar
+    pub loop-on : and (opens-at t at k) (closes-first (drop k t)) ≡ false → seek t at (k + 1) ≡ seek t at at
+    loop-on e = seek-step t at k (omega (arith, l, d .from)) h e ∙ to-dollar

@@ -18,10 +18,11 @@ use Rattle.paper.proofs.Comments.{after-append, visible-append}
 use Rattle.paper.proofs.Keys.{label-no-key}
 use Rattle.token.specs.Words.{tokens-from, token-of}
 use Rattle.token.specs.declared.cursor.Span.{Span}
-use Rattle.token.proofs.Counts.{tokens-few}
+use Rattle.token.specs.declared.cursor.Cursor.{Cursor}
+use Rattle.token.proofs.Words.{tokens-end}
 use Rattle.reader.specs.Passed.{Passed, Shows}
 use Rattle.reader.specs.Held.{Reached}
-use Rattle.reader.proofs.Passes.{passed-none, passed-then, passed-few, passed-shows, tokens-end}
+use Rattle.reader.proofs.Passes.{passed-none, passed-then, passed-few}
 
 -- ---- one stretch after the other
 many-stop : (l : List Token) (o : ℕ) → many l (stop o) ≡ stop o
@@ -73,18 +74,15 @@ reached-run {t} {e} {f} {c} {y} {z} {ms} r p q =
       size = omega (arith, r .size, length-append (r .seen) ms);
     }
 
-pub reached-token : {t : List ℕ} {e c d : ℕ} {m : Mode} {i : List Item} {x : Span} {z : Step} → Reached t e c (go m d i) → Shows t e x
-    → allow m d (token-of t x) ≡ z → Reached t (x .stop) (c + 1) (with-items i z)
+pub reached-token : {t : List ℕ} {e c d : ℕ} {m : Mode} {i : List Item} {x : Span} {a : Cursor} {z : Step} → Reached t e c (go m d i) → Shows t e x a
+    → allow m d (token-of t x) ≡ z → Reached t (a .at) (c + 1) (with-items i z)
 unfolding many
-reached-token {t} {e} {c} {d} {m} {i} {x} {z} r s q = reached-run r (passed-shows s) (ap (with-items i) q)
+reached-token {i = i} r s q = reached-run r (s .passed) (ap (with-items i) q)
 
 -- no more tokens are read than there are
 tokens-whole : (t : List ℕ) → tokens-from t 0 ≡ tokens t
 unfolding tokens-from tokens
 tokens-whole t = refl
-
-pub few-tokens : (t : List ℕ) → length (tokens t) ≤ length t
-few-tokens t = omega (arith, tokens-few t 0, ap length (tokens-whole t))
 
 pub reached-few : {t : List ℕ} {e c : ℕ} {z : Step} → Reached t e c z → c + length (tokens-from t e) ≤ length (tokens t)
 reached-few {t} {e} {c} r = omega (arith, r .size, passed-few (r .passed), ap length (tokens-whole t))

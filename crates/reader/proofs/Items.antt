@@ -19,6 +19,8 @@ use Rattle.paper.proofs.Tests.{split, by-option, clash}
 use Rattle.area.specs.Cells.{bucket-cell}
 use Rattle.token.specs.Words.{tokens-from, token-of}
 use Rattle.token.specs.declared.cursor.Span.{Span}
+use Rattle.token.specs.declared.cursor.Cursor.{Cursor}
+use Rattle.token.proofs.Counts.{few-tokens}
 use Rattle.reader.specs.Rows.{kind-number}
 use Rattle.reader.specs.Passed.{Passed, Shows}
 use Rattle.reader.specs.Kinds.{code}
@@ -27,9 +29,9 @@ use Rattle.reader.specs.Held.{Reached, Held, Begun, Turned, Taken}
 use Rattle.reader.specs.declared.state.State.{State}
 use Rattle.reader.specs.declared.state.Turn.{Turn}
 use Rattle.reader.specs.declared.state.Turn.the-variants as turn
-use Rattle.reader.proofs.Passes.{passed-few, passed-shows}
+use Rattle.reader.proofs.Passes.{passed-few, shows-gap, shows-within}
 use Rattle.reader.proofs.Runs.{stands-span}
-use Rattle.reader.proofs.Grammar.{reached-token, reached-few, few-tokens, refuse-token, refuse-open, reach-end, allow-label, allow-open, allow-close, allow-begin, allow-named}
+use Rattle.reader.proofs.Grammar.{reached-token, reached-few, refuse-token, refuse-open, reach-end, allow-label, allow-open, allow-close, allow-begin, allow-named}
 use Rattle.reader.proofs.Keeping.{words-bracket}
 
 -- ---- keywords by their numbers
@@ -63,7 +65,7 @@ shut-some : (d : ℕ) (x : Token) → 0 < d → shut d x ≡ go start (d - 1) (c
 shut-some zero x h = absurd (not-suc-le-zero h)
 shut-some (suc d) x h = let q : suc d - 1 ≡ d = omega arith in rw q
 
-span-length : {t : List ℕ} {i : ℕ} {x : Span} → Shows t i x → length (take (x .stop - x .start) (drop (x .start) t)) ≡ x .stop - x .start
+span-length : {t : List ℕ} {i : ℕ} {x : Span} {c : Cursor} → Shows t i x c → length (take (x .stop - x .start) (drop (x .start) t)) ≡ x .stop - x .start
 span-length {t} {i} {x} h = length-take-le (x .stop - x .start) (drop (x .start) t) (omega (arith, length-drop (x .start) t, h .whole .within))
 
 module _ {t w : List ℕ} {n : ℕ} {s : State} (h : Held t w n s) where
@@ -71,9 +73,9 @@ module _ {t w : List ℕ} {n : ℕ} {s : State} (h : Held t w n s) where
   small = omega (arith, h .words .size, h .words .short, few-tokens t)
 
   -- ---- a token x
-  module _ {x : Span} (p : Shows t (s .at) x) where
-    less-one : length (tokens-from t (x .stop)) < length (tokens-from t (s .at))
-    less-one = omega (arith, passed-few (passed-shows p))
+  module _ {x : Span} {a : Cursor} (p : Shows t (s .cursor .at) x a) where
+    less-one : length (tokens-from t (a .at)) < length (tokens-from t (s .cursor .at))
+    less-one = omega (arith, passed-few (p .passed))
 
     pub event-room : EventRoom w n s
     event-room =
@@ -96,7 +98,7 @@ module _ {t w : List ℕ} {n : ℕ} {s : State} (h : Held t w n s) where
             let b : begin (plain-kind (token-of t x)) (s .depth) (token-of t x) ≡ stop (x .start) = rw (code-none (plain-kind (token-of t x)) (sym q ∙ z), a) in
             refuse-token (reached-token {z = stop (x .start)} (h .reached) p (allow-begin (s .depth) (token-of t x) f₁ f₂ ∙ b)) (length t)
 
-        pub plain-begun : (c ≡ 0 → ⊥) → Begun t w n s (record { kind = c; at = x .start; label = 0; from = x .stop })
+        pub plain-begun : (c ≡ 0 → ⊥) → Begun t w n s (record { kind = c; at = x .start; label = 0; from = a })
         plain-begun nz =
             by-option (plain-kind (token-of t x))
             (λ k e.
@@ -112,8 +114,8 @@ module _ {t w : List ℕ} {n : ℕ} {s : State} (h : Held t w n s) where
               bears = λ g. absurd (clash (sym g ∙ plain-bare (token-of t x) k e));
               reached = rw append-nil at (reached-token {z = go (math k (x .start) [] []) (s .depth) []} (h .reached) p (allow-begin (s .depth) (token-of t x) f₁ f₂ ∙ b));
               less = less-one;
-              gap = p .whole .closed;
-              within = p .whole .within;
+              gap = shows-gap p;
+              within = shows-within p;
               at = omega (arith, p .whole .some, p .whole .within);
               size = omega arith;
             })
@@ -121,8 +123,8 @@ module _ {t w : List ℕ} {n : ℕ} {s : State} (h : Held t w n s) where
 
     -- `${` and `$}`
     module _ {v : List ℕ} {st : State} where
-      pub open-held : key 123 (token-of t x) ≡ true → v ≡ set w (bucket-cell n (s .items)) 1 → st ≡ opened s (x .stop)
-          → Held t v n st × (length (tokens-from t (st .at)) < length (tokens-from t (s .at)))
+      pub open-held : key 123 (token-of t x) ≡ true → v ≡ set w (bucket-cell n (s .items)) 1 → st ≡ opened s a
+          → Held t v n st × (length (tokens-from t (st .cursor .at)) < length (tokens-from t (s .cursor .at)))
       open-held f ev es =
           let few = reached-few (h .reached) in
           let q : suc (s .depth) ≡ s .depth + 1 = omega arith in
@@ -138,8 +140,8 @@ module _ {t w : List ℕ} {n : ℕ} {s : State} (h : Held t w n s) where
           )
 
       pub close-held : key 123 (token-of t x) ≡ false → key 125 (token-of t x) ≡ true → 0 < s .depth
-          → v ≡ set w (bucket-cell n (s .items)) (x .start + 2) → st ≡ shut-one s (x .stop)
-          → Held t v n st × (length (tokens-from t (st .at)) < length (tokens-from t (s .at)))
+          → v ≡ set w (bucket-cell n (s .items)) (x .start + 2) → st ≡ shut-one s a
+          → Held t v n st × (length (tokens-from t (st .cursor .at)) < length (tokens-from t (s .cursor .at)))
       close-held f₁ f₂ l ev es =
           let few = reached-few (h .reached) in
           let r = reached-token {z = go start (s .depth - 1) (closes (x .start) ∷ [])} (h .reached) p (allow-close (s .depth) (token-of t x) f₁ f₂ ∙ shut-some (s .depth) (token-of t x) l) in
@@ -155,24 +157,24 @@ module _ {t w : List ℕ} {n : ℕ} {s : State} (h : Held t w n s) where
 
     -- a label, and what stands after it
     module _ (l : 4 ≤ x .least) where
-      labelled-at : Reached t (x .stop) (s .rows + s .items + s .maths + 1) (go (named (token-of t x)) (s .depth) (h .found))
+      labelled-at : Reached t (a .at) (s .rows + s .items + s .maths + 1) (go (named (token-of t x)) (s .depth) (h .found))
       labelled-at =
           rw append-nil at (reached-token {z = go (named (token-of t x)) (s .depth) []} (h .reached) p
           (allow-label (s .depth) (token-of t x) (sym (p .whole .label) ∙ le-leb 4 (x .least) l)))
 
-      pub label-end : Passed t (x .stop) (length t) outside [] outside → items (tokens t) (length t) ≡ refused (OpenText (length t))
+      pub label-end : Passed t (a .at) (length t) outside [] outside → items (tokens t) (length t) ≡ refused (OpenText (length t))
       label-end q = reach-end labelled-at q (length t)
 
-      pub label-open : {o : ℕ} → Passed t (x .stop) (length t) outside [] (inside o) → items (tokens t) (length t) ≡ refused (OpenComment o)
+      pub label-open : {o : ℕ} → Passed t (a .at) (length t) outside [] (inside o) → items (tokens t) (length t) ≡ refused (OpenComment o)
       label-open q = refuse-open labelled-at q (length t)
 
-      module _ {y : Span} (g : Shows t (x .stop) y) {c : ℕ} (q : c ≡ code (label-kind (token-of t y))) where
+      module _ {y : Span} {b : Cursor} (g : Shows t (a .at) y b) {c : ℕ} (q : c ≡ code (label-kind (token-of t y))) where
         pub label-bad : c ≡ 0 → items (tokens t) (length t) ≡ refused (BadToken (y .start))
         label-bad z =
             let b : keyword (label-kind (token-of t y)) (s .depth) (token-of t x) (token-of t y) ≡ stop (y .start) = rw (code-none (label-kind (token-of t y)) (sym q ∙ z)) in
             refuse-token (reached-token {z = stop (y .start)} labelled-at g (allow-named (s .depth) (token-of t x) (token-of t y) ∙ b)) (length t)
 
-        pub label-begun : (c ≡ 0 → ⊥) → Begun t w n s (record { kind = c; at = x .start; label = x .stop - x .start; from = y .stop })
+        pub label-begun : (c ≡ 0 → ⊥) → Begun t w n s (record { kind = c; at = x .start; label = x .stop - x .start; from = b })
         label-begun nz =
             by-option (label-kind (token-of t y))
             (λ k e.
@@ -188,9 +190,9 @@ module _ {t w : List ℕ} {n : ℕ} {s : State} (h : Held t w n s) where
               label = sym (span-length p);
               bears = λ _. stands-span (p .whole);
               reached = rw append-nil at (reached-least {b = s .rows + s .items + s .maths + 1} (omega arith) (reached-token {z = z} labelled-at g (allow-named (s .depth) (token-of t x) (token-of t y) ∙ b)));
-              less = omega (arith, less-one, passed-few (passed-shows g));
-              gap = g .whole .closed;
-              within = g .whole .within;
+              less = omega (arith, less-one, passed-few (g .passed));
+              gap = shows-gap g;
+              within = shows-within g;
               at = omega (arith, p .whole .some, p .whole .within);
               size = omega (arith, p .whole .within);
             })

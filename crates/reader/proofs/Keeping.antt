@@ -109,7 +109,7 @@ row-same {t} {w} {v} {n} {s} {x} {m} h e f =
 
 -- ---- one more statement: u are the words after its math tokens, v those with its row
 module _ {t w u : List ℕ} {n : ℕ} {i : List Item} {rows maths items most stop count : ℕ} (h : Words t w n i rows maths items) (d : Head) (k : Kind) (lab : List ℕ) (ps : List Token)
-    (r : Running t w u n (d .from) most maths stop count) (some : 1 ≤ count)
+    (r : Running t w u n (d .from .at) most maths stop count) (some : 1 ≤ count)
     (ek : d .kind ≡ kind-number k) (el : d .label ≡ length lab) (eb : labelled k ≡ true → Stands t (record { at = d .at; bytes = lab }))
     (f₁ : 3 * (rows + 1) < n) (f₂ : maths + count < n) (f₃ : items < n) where
   abbrev pub new : Statement
@@ -119,7 +119,7 @@ module _ {t w u : List ℕ} {n : ℕ} {i : List Item} {rows maths items most sto
   after-row = with-row u rows d stop maths count
 
   abbrev row-words : List ℕ
-  row-words = d .kind ∷ d .at ∷ d .label ∷ d .from ∷ stop ∷ maths ∷ count ∷ []
+  row-words = d .kind ∷ d .at ∷ d .label ∷ d .from .at ∷ stop ∷ maths ∷ count ∷ []
 
   -- the cells outside the new row are those of u
   below : (c : ℕ) → c < 12 * rows → word after-row c ≡ word u c

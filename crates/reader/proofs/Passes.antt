@@ -6,23 +6,18 @@ use mathlib.Core.List.{List, [], _∷_, _++_, append-assoc}
 use Prim.Native.Nat.{ℕ, _+_, _<_, _≤_}
 use native.Mathlib.Omega.{arith}
 use lib.ListN.{length, length-append}
-use lib.Seq.{drop-length}
-use Rattle.paper.specs.Tokens.{Token, run, toks, key}
+use Rattle.paper.specs.Tokens.{Token, key}
 use Rattle.paper.specs.Comments.{Place, outside, inside, next, after, shown, visible}
 use Rattle.paper.proofs.Comments.{after-append, visible-append, visible-few}
 use Rattle.paper.proofs.Keys.{math-no-key}
 use Rattle.token.specs.Words.{tokens-from, token-of, Spans, Read}
+use Rattle.token.proofs.Words.{tokens-end}
 use Rattle.token.specs.declared.cursor.Span.{Span}
 use Rattle.token.specs.declared.cursor.Cursor.{Cursor}
 use Rattle.reader.specs.declared.comment.Comment.the-variants as comment
 use Rattle.reader.specs.declared.comment.Look.the-variants as look
-use Rattle.reader.specs.Passed.{Passed, Shows, Commented, Looked}
+use Rattle.reader.specs.Passed.{Passed, Gap, Shows, Commented, Looked}
 use borrow.Author.Tests.{le-leb}
-
--- no token from the end on
-pub tokens-end : (t : List ℕ) → tokens-from t (length t) ≡ []
-unfolding tokens-from toks run
-tokens-end t = rw drop-length
 
 pub passed-none : (t : List ℕ) (i : ℕ) (p : Place) → Passed t i i p [] p
 unfolding after visible
@@ -64,38 +59,43 @@ module _ {t : List ℕ} (i : ℕ) {x : Span} (s : tokens-from t i ≡ tokens-fro
   pub pass-shown : key 40 (token-of t x) ≡ false → Passed t i (x .stop) outside (token-of t x ∷ []) outside
   pass-shown e = rw e at (one outside)
 
-  pub pass-skip : Passed t i (x .start) outside [] outside
-  unfolding after visible
-  pass-skip = record { pre = []; split = s; shows = refl; place = refl }
-
   pub token-less : length (tokens-from t (x .stop)) < length (tokens-from t i)
   token-less = omega (arith, ap length s, ap length (h .here))
 
--- the token that shows is passed
-pub passed-shows : {t : List ℕ} {i : ℕ} {x : Span} → Shows t i x → Passed t i (x .stop) outside (token-of t x ∷ []) outside
-passed-shows h = passed-then (h .passed) (pass-shown _ refl (h .whole) (h .plain))
+-- where the cursor stands after it
+pub shows-gap : {t : List ℕ} {i : ℕ} {x : Span} {c : Cursor} → Shows t i x c → Gap t (c .at)
+shows-gap h = rw (h .stands) (h .whole .closed)
+
+pub shows-within : {t : List ℕ} {i : ℕ} {x : Span} {c : Cursor} → Shows t i x c → c .at ≤ length t
+shows-within h = rw (h .stands) (h .whole .within)
 
 -- one comment after another before it
-pub shows-after : {t : List ℕ} {i e : ℕ} {x : Span} → Passed t i e outside [] outside → i ≤ e → Shows t e x → Shows t i x
+pub shows-after : {t : List ℕ} {i e : ℕ} {x : Span} {c : Cursor} → Passed t i e outside [] outside → i ≤ e → Shows t e x c → Shows t i x c
 shows-after p l h =
-    record { passed = passed-then p (h .passed); onward = omega (arith, l, h .onward); plain = h .plain; whole = h .whole }
+    record { passed = passed-then p (h .passed); onward = omega (arith, l, h .onward); whole = h .whole; stands = h .stands }
 
 -- ---- the first token from i on, by whether it begins a comment
 module _ {t : List ℕ} {i : ℕ} {x : Span} {c : Cursor} (r : Read t i x c) where
-  pub look-plain : key 40 (token-of t x) ≡ false → Shows t i x
-  look-plain e = record { passed = pass-skip i (r .skip) (r .whole); onward = r .from; plain = e; whole = r .whole }
+  pub look-plain : key 40 (token-of t x) ≡ false → Shows t i x c
+  look-plain e = record { passed = rw (r .stands) (pass-shown i (r .skip) (r .whole) e); onward = r .from; whole = r .whole; stands = r .stands }
 
-  pub look-math : 3 ≤ x .least → Shows t i x
+  pub look-math : 3 ≤ x .least → Shows t i x c
   look-math h = look-plain (math-no-key 40 (token-of t x) (sym (r .whole .math) ∙ le-leb 3 (x .least) h))
 
-  pub look-open : key 40 (token-of t x) ≡ true → Commented t (x .stop) comment.Never → Looked t i (look.Open (x .start))
-  look-open e h = passed-then (pass-open i (r .skip) (r .whole) e) (h (x .start))
+  opened : key 40 (token-of t x) ≡ true → Passed t i (c .at) outside [] (inside (x .start))
+  opened e = rw (r .stands) (pass-open i (r .skip) (r .whole) e)
 
-  pub look-past : key 40 (token-of t x) ≡ true → (a : ℕ) → Commented t (x .stop) (comment.Closed a) → Looked t i (look.Past a)
+  less : length (tokens-from t (c .at)) < length (tokens-from t i)
+  less = rw (r .stands) (token-less i (r .skip) (r .whole))
+
+  pub look-open : key 40 (token-of t x) ≡ true → Commented t (c .at) comment.Never → Looked t i (look.Open (x .start))
+  look-open e h = passed-then (opened e) (h (x .start))
+
+  pub look-past : key 40 (token-of t x) ≡ true → (a : Cursor) → Commented t (c .at) (comment.Closed a) → Looked t i (look.Past a)
   look-past e a h = (
-    passed-then (pass-open i (r .skip) (r .whole) e) (h .0 (x .start)),
-    omega (arith, passed-few (h .0 (x .start)), token-less i (r .skip) (r .whole)),
-    omega (arith, h .1, r .from, r .whole .some),
+    passed-then (opened e) (h .0 (x .start)),
+    omega (arith, passed-few (h .0 (x .start)), less),
+    omega (arith, h .1, r .from, r .whole .some, r .stands),
   )
 
 pub look-done : {t : List ℕ} {i : ℕ} → tokens-from t i ≡ [] → Looked t i look.End

@@ -21,6 +21,7 @@ use Rattle.area.specs.Cells.{math-cell, word}
 use Rattle.area.proofs.Laws.{word-same, word-other, only-none, only-set, only-then, only-wide}
 use Rattle.token.specs.Words.{tokens-from, token-of, Spans}
 use Rattle.token.specs.declared.cursor.Span.{Span}
+use Rattle.token.specs.declared.cursor.Cursor.{Cursor}
 use Rattle.reader.specs.Rows.{Stands}
 use Rattle.reader.specs.Passed.{Shows}
 use Rattle.reader.specs.Hops.{Hopped}
@@ -29,7 +30,7 @@ use Rattle.reader.specs.declared.comment.Visible.{Visible}
 use Rattle.reader.specs.declared.comment.Visible.the-variants as vis
 use Rattle.reader.proofs.comment.Visible.{the-type}
 use Rattle.reader.proofs.Dollars.{and-both}
-use Rattle.reader.proofs.Passes.{passed-none, passed-then, passed-few, passed-shows}
+use Rattle.reader.proofs.Passes.{passed-none, passed-then, passed-few, shows-gap, shows-within}
 
 -- a span of the text stands there as a token
 pub stands-span : {t : List ℕ} {x : Span} → Spans t x → Stands t (token-of t x)
@@ -82,13 +83,13 @@ running-start {t} {w} {n} {at} {first} most h =
     }
 
 -- there is room for one more
-pub running-fits : {t w v : List ℕ} {n at most first stop count : ℕ} {x : Span} → RunRoom t w n at first → Running t w v n at most first stop count → Shows t stop x
+pub running-fits : {t w v : List ℕ} {n at most first stop count : ℕ} {x : Span} {c : Cursor} → RunRoom t w n at first → Running t w v n at most first stop count → Shows t stop x c
     → first + count < n
-running-fits r h s = omega (arith, r .few, h .counted, passed-few (h .passed), passed-few (passed-shows s))
+running-fits r h s = omega (arith, r .few, h .counted, passed-few (h .passed), passed-few (s .passed))
 
-module _ {t w v u : List ℕ} {n at most first stop count : ℕ} {x : Span} (r : RunRoom t w n at first) (h : Running t w v n at most first stop count) (s : Shows t stop x) where
+module _ {t w v u : List ℕ} {n at most first stop count : ℕ} {x : Span} {c : Cursor} (r : RunRoom t w n at first) (h : Running t w v n at most first stop count) (s : Shows t stop x c) where
   pub running-more : and (leb 3 (x .least)) (ltb count most) ≡ true → u ≡ set v (math-cell n (first + count)) (x .start)
-      → Running t w u n at most first (x .stop) (count + 1)
+      → Running t w u n at most first (c .at) (count + 1)
   running-more b q =
       let e : leb 3 (x .least) ≡ true = and-both (leb 3 (x .least)) (ltb count most) b .0 in
       let l : count < most = ltb-true count most (and-both (leb 3 (x .least)) (ltb count most) b .1) in
@@ -96,7 +97,7 @@ module _ {t w v u : List ℕ} {n at most first stop count : ℕ} {x : Span} (r :
       let len : length (h .ms) ≡ count = h .counted in
       record {
         ms = h .ms ++ (token-of t x ∷ []);
-        passed = passed-then (h .passed) (passed-shows s);
+        passed = passed-then (h .passed) (s .passed);
         counted = omega (arith, length-append (h .ms) (token-of t x ∷ []), len);
         maths = all-snoc math-token (h .ms) (token-of t x) (h .maths) (sym (s .whole .math) ∙ e);
         upto = omega arith;
@@ -105,9 +106,9 @@ module _ {t w v u : List ℕ} {n at most first stop count : ℕ} {x : Span} (r :
             (rw (q, len) (word-same v (math-cell n (first + count)) (x .start) room));
         stand = snoc-each no-token (λ k y. Stands t y) (h .ms) (token-of t x) (h .stand) (stands-span (s .whole));
         only = rw q (only-then (only-wide (le-refl (math-cell n first)) (omega arith) (h .only)) (only-set (math-cell n first) (math-cell n (first + (count + 1))) v (math-cell n (first + count)) (x .start) (omega arith) (omega arith)));
-        onward = omega (arith, h .onward, s .onward, s .whole .some);
-        within = s .whole .within;
-        gap = s .whole .closed;
+        onward = omega (arith, h .onward, s .onward, s .whole .some, s .stands);
+        within = shows-within s;
+        gap = shows-gap s;
       }
 
 -- ---- a proof's run
@@ -115,11 +116,11 @@ pub proving-start : (t : List ℕ) (at : ℕ) → Proving t at at 0
 unfolding all
 proving-start t at = record { ps = []; passed = passed-none t at outside; some = refl; maths = refl }
 
-pub proving-more : {t : List ℕ} {at stop count : ℕ} {x : Span} → Proving t at stop count → Shows t stop x → leb 3 (x .least) ≡ true → Proving t at (x .stop) 1
+pub proving-more : {t : List ℕ} {at stop count : ℕ} {x : Span} {c : Cursor} → Proving t at stop count → Shows t stop x c → leb 3 (x .least) ≡ true → Proving t at (c .at) 1
 proving-more {t} {at} {stop} {count} {x} h s e =
     record {
       ps = h .ps ++ (token-of t x ∷ []);
-      passed = passed-then (h .passed) (passed-shows s);
+      passed = passed-then (h .passed) (s .passed);
       some = sym (le-leb 1 (length (h .ps ++ (token-of t x ∷ []))) (omega (arith, length-append (h .ps) (token-of t x ∷ []))));
       maths = all-snoc math-token (h .ps) (token-of t x) (h .maths) (sym (s .whole .math) ∙ e);
     }
@@ -136,15 +137,15 @@ proving-on {t} {at} {stop} {s} h y =
 
 -- ---- what ends a run: no token, no math token, or enough of them
 pub not-token : (t : List ℕ) (v : Visible) → (tagOf the-type v ≡ 1) ⊎ (tagOf the-type v ≡ 2) → math-next t v ≡ false
-not-token t (vis.Token x) (inl e) = absurd (omega (arith, e))
-not-token t (vis.Token x) (inr e) = absurd (omega (arith, e))
+not-token t (vis.Token x c) (inl e) = absurd (omega (arith, e))
+not-token t (vis.Token x c) (inr e) = absurd (omega (arith, e))
 not-token t (vis.Open p) e = refl
 not-token t vis.End e = refl
 
-pub not-math : {t : List ℕ} {stop : ℕ} {x : Span} → Shows t stop x → x .least < 3 → math-token (token-of t x) ≡ false
+pub not-math : {t : List ℕ} {stop : ℕ} {x : Span} {c : Cursor} → Shows t stop x c → x .least < 3 → math-token (token-of t x) ≡ false
 not-math {t} {stop} {x} s l = sym (s .whole .math) ∙ lt-leb 3 (x .least) l
 
-pub not-taken : {t : List ℕ} {stop : ℕ} {x : Span} (b : Bool) → Shows t stop x → and (leb 3 (x .least)) b ≡ false → and (math-token (token-of t x)) b ≡ false
+pub not-taken : {t : List ℕ} {stop : ℕ} {x : Span} {c : Cursor} (b : Bool) → Shows t stop x c → and (leb 3 (x .least)) b ≡ false → and (math-token (token-of t x)) b ≡ false
 not-taken b s e = rw (← s .whole .math) e
 
 pub and-left : (a b : Bool) → a ≡ false → and a b ≡ false

@@ -31,7 +31,7 @@ stored-at (x ∷ l) w i (suc k) h m =
 pub row-sets : (w : List ℕ) (s : ℕ) (h : Head) (to first count c₀ c₁ c₂ c₃ c₄ c₅ c₆ : ℕ)
     → c₀ ≡ statement-cell s 0 → c₁ ≡ statement-cell s 1 → c₂ ≡ statement-cell s 2 → c₃ ≡ statement-cell s 3
     → c₄ ≡ statement-cell s 4 → c₅ ≡ statement-cell s 5 → c₆ ≡ statement-cell s 6
-    → set (set (set (set (set (set (set w c₀ (h .kind)) c₁ (h .at)) c₂ (h .label)) c₃ (h .from)) c₄ to) c₅ first) c₆ count ≡ with-row w s h to first count
+    → set (set (set (set (set (set (set w c₀ (h .kind)) c₁ (h .at)) c₂ (h .label)) c₃ (h .from .at)) c₄ to) c₅ first) c₆ count ≡ with-row w s h to first count
 unfolding with-row
 row-sets w s h to first count c₀ c₁ c₂ c₃ c₄ c₅ c₆ e₀ e₁ e₂ e₃ e₄ e₅ e₆ =
     let b = statement-cell s 0 in

@@ -31,14 +31,15 @@ use Rattle.token.specs.Count.{bad-of, count-of}
 use Rattle.token.specs.declared.count.Counted.{Counted}
 use Rattle.token.specs.declared.count.Bad.the-variants.{At, Nowhere}
 use Rattle.reader.specs.declared.state.State.{State}
-use Rattle.reader.proofs.Grammar.{reached-start, reached-few, few-tokens, reach-end}
+use Rattle.token.proofs.Counts.{few-tokens}
+use Rattle.reader.proofs.Grammar.{reached-start, reached-few, reach-end}
 use Rattle.reader.proofs.Keeping.{before-within, row-same, words-start}
 
 -- ---- all items
-pub held-start : {t w : List ℕ} {n : ℕ} → Words t w n [] 0 0 0 → Held t w n (record { at = 0; rows = 0; maths = 0; items = 0; depth = 0 })
+pub held-start : {t w : List ℕ} {n : ℕ} → Words t w n [] 0 0 0 → Held t w n (record { cursor = record { at = 0 }; rows = 0; maths = 0; items = 0; depth = 0 })
 held-start {t} h = record { found = []; words = h; reached = reached-start t; deep = omega arith }
 
-module _ {t w : List ℕ} {n : ℕ} {s : State} (h : Held t w n s) (p : Passed t (s .at) (length t) outside [] outside) where
+module _ {t w : List ℕ} {n : ℕ} {s : State} (h : Held t w n s) (p : Passed t (s .cursor .at) (length t) outside [] outside) where
   pub all-open : (s .depth ≡ 0 → ⊥) → items (tokens t) (length t) ≡ refused (OpenText (length t))
   all-open z = reach-end (h .reached) p (length t) ∙ deeper (s .depth) z
     where

@@ -21,11 +21,16 @@ abbrev pub shuts : List ℕ → Bool
 shuts [] = false
 shuts (b ∷ l) = and (eqb b 41) (gap-first l)
 
+-- `$)` and then white space or the end
+abbrev pub closes-first : List ℕ → Bool
+closes-first [] = false
+closes-first (b ∷ l) = and (eqb b 36) (shuts l)
+
 -- the offset after the first `$)`, where the bytes start at offset o, and w says whether white space stands before them
 unfoldable pub close-from : List ℕ → ℕ → Bool → Option ℕ
 close-from [] o w = none
 close-from (b ∷ l) o w =
-    let r = close-from l (suc o) (white b) in choose (and w (and (eqb b 36) (shuts l))) (some (o + 2)) r
+    let r = close-from l (suc o) (white b) in choose (and w (closes-first (b ∷ l))) (some (o + 2)) r
 
 -- whether a token may start at offset i of a comment that goes on from `at`
 unfoldable pub opens-at : List ℕ → ℕ → ℕ → Bool

@@ -30,7 +30,7 @@ pub record Reached (t : List ℕ) (e c : ℕ) (z : Step) : Type 0 where
 pub record Held (t w : List ℕ) (n : ℕ) (s : State) : Type 0 where
   pub found : List Item
   pub words : Words t w n found (s .rows) (s .maths) (s .items)
-  pub reached : Reached t (s .at) (s .rows + s .items + s .maths) (go start (s .depth) found)
+  pub reached : Reached t (s .cursor .at) (s .rows + s .items + s .maths) (go start (s .depth) found)
   pub deep : s .depth ≤ s .items
 
 -- after the keyword of a statement
@@ -43,10 +43,10 @@ pub record Begun (t w : List ℕ) (n : ℕ) (s : State) (h : Head) : Type 0 wher
   pub code : h .kind ≡ kind-number kind
   pub label : h .label ≡ length name
   pub bears : labelled kind ≡ true → Stands t (record { at = h .at; bytes = name })
-  pub reached : Reached t (h .from) (s .rows + s .items + s .maths + 1) (go (math kind (h .at) name []) (s .depth) found)
-  pub less : length (tokens-from t (h .from)) < length (tokens-from t (s .at))
-  pub gap : Gap t (h .from)
-  pub within : h .from ≤ length t
+  pub reached : Reached t (h .from .at) (s .rows + s .items + s .maths + 1) (go (math kind (h .at) name []) (s .depth) found)
+  pub less : length (tokens-from t (h .from .at)) < length (tokens-from t (s .cursor .at))
+  pub gap : Gap t (h .from .at)
+  pub within : h .from .at ≤ length t
   pub at : h .at ≤ length t
   pub size : h .label ≤ length t
 
@@ -55,20 +55,20 @@ pub record Stated (t u : List ℕ) (n : ℕ) (s : State) (h : Head) (to count at
   pub base : List ℕ
   pub begun : Begun t base n s h
   pub most : ℕ
-  pub run : Running t base u n (h .from) most (s .maths) to count
+  pub run : Running t base u n (h .from .at) most (s .maths) to count
   pub some : 1 ≤ count
   pub kind : begun .kind ≡ $p
   pub reached : Reached t at (s .rows + s .items + s .maths + 2 + count) (go (proof (h .at) (begun .name) (run .ms) []) (s .depth) (begun .found))
-  pub less : length (tokens-from t at) < length (tokens-from t (s .at))
+  pub less : length (tokens-from t at) < length (tokens-from t (s .cursor .at))
 
 -- what reading an item that begins at `at` or later promises
 abbrev pub Turned : List ℕ → List ℕ → ℕ → ℕ → Turn → Type 0
-Turned t v n at (turn.Next s) = Held t v n s × (length (tokens-from t (s .at)) < length (tokens-from t at))
+Turned t v n at (turn.Next s) = Held t v n s × (length (tokens-from t (s .cursor .at)) < length (tokens-from t at))
 Turned t v n at (turn.Refused x) = items (tokens t) (length t) ≡ refused x
 Turned t v n at turn.End = ⊥
 
 -- and what looking for one promises
 abbrev pub Taken : List ℕ → List ℕ → List ℕ → ℕ → ℕ → Turn → Type 0
-Taken t w v n at (turn.Next s) = Held t v n s × (length (tokens-from t (s .at)) < length (tokens-from t at))
+Taken t w v n at (turn.Next s) = Held t v n s × (length (tokens-from t (s .cursor .at)) < length (tokens-from t at))
 Taken t w v n at (turn.Refused x) = items (tokens t) (length t) ≡ refused x
 Taken t w v n at turn.End = Passed t at (length t) outside [] outside × (v ≡ w)

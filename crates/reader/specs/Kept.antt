@@ -13,6 +13,7 @@ use Rattle.paper.specs.Statements.{labelled, Statement, Item, opens, closes, st
 use Rattle.paper.specs.Checks.{token}
 use Rattle.area.specs.Cells.{statement-cell, bucket-cell, math-cell, word}
 use Rattle.reader.specs.Rows.{stmt, before, kind-number, Stands, label-of}
+use Rattle.token.specs.declared.cursor.Cursor.{Cursor}
 use Rattle.reader.specs.declared.state.State.{State}
 use Rattle.reader.specs.declared.state.Head.{Head}
 
@@ -69,7 +70,7 @@ pub record Words (t w : List ℕ) (n : ℕ) (i : List Item) (rows maths items : 
 -- one more row, with these words
 unfoldable pub with-row : List ℕ → ℕ → Head → ℕ → ℕ → ℕ → List ℕ
 with-row w s h to first count =
-    sets w (statement-cell s 0) (h .kind ∷ h .at ∷ h .label ∷ h .from ∷ to ∷ first ∷ count ∷ [])
+    sets w (statement-cell s 0) (h .kind ∷ h .at ∷ h .label ∷ h .from .at ∷ to ∷ first ∷ count ∷ [])
 
 -- what a row asks
 pub record RowRoom (w : List ℕ) (s : State) (h : Head) (to count : ℕ) : Type 0 where
@@ -77,14 +78,14 @@ pub record RowRoom (w : List ℕ) (s : State) (h : Head) (to count : ℕ) : Type
   pub few : s .rows < 16777216
   pub at : h .at ≤ 16777216
   pub label : h .label ≤ 16777216
-  pub from : h .from ≤ 16777216
+  pub from : h .from .at ≤ 16777216
   pub upto : to ≤ 16777216
   pub maths : s .maths + count ≤ 16777216
   pub items : s .items < 16777217
 
-abbrev pub next-state : State → ℕ → ℕ → State
-next-state s count at =
-    record { at = at; rows = s .rows + 1; maths = s .maths + count; items = s .items + 1; depth = s .depth }
+abbrev pub next-state : State → ℕ → Cursor → State
+next-state s count c =
+    record { cursor = c; rows = s .rows + 1; maths = s .maths + count; items = s .items + 1; depth = s .depth }
 
 -- what the word of an item asks
 pub record EventRoom (w : List ℕ) (n : ℕ) (s : State) : Type 0 where
@@ -94,10 +95,10 @@ pub record EventRoom (w : List ℕ) (n : ℕ) (s : State) : Type 0 where
   pub deep : s .depth ≤ s .items
 
 -- the states after `${` and after `$}`
-abbrev pub opened : State → ℕ → State
-opened s at =
-    record { at = at; rows = s .rows; maths = s .maths; items = s .items + 1; depth = s .depth + 1 }
+abbrev pub opened : State → Cursor → State
+opened s c =
+    record { cursor = c; rows = s .rows; maths = s .maths; items = s .items + 1; depth = s .depth + 1 }
 
-abbrev pub shut-one : State → ℕ → State
-shut-one s at =
-    record { at = at; rows = s .rows; maths = s .maths; items = s .items + 1; depth = s .depth - 1 }
+abbrev pub shut-one : State → Cursor → State
+shut-one s c =
+    record { cursor = c; rows = s .rows; maths = s .maths; items = s .items + 1; depth = s .depth - 1 }

@@ -1,15 +1,16 @@
 -- What is passed between two offsets of a text: the tokens outside comments, and the place of comments before and after.
 -- Each answer of the functions that look for tokens says what was passed.
 use mathlib.Core.Path.{_≡_}
-use mathlib.Core.Bool.{true, false}
-use mathlib.Core.List.{List, [], _++_}
+use mathlib.Core.Bool.{true}
+use mathlib.Core.List.{List, [], _∷_, _++_}
 use Prim.Native.Nat.{ℕ, _<_, _≤_}
 use lib.ListN.{length, getD}
 use Rattle.paper.specs.Bytes.{white}
-use Rattle.paper.specs.Tokens.{Token, key}
+use Rattle.paper.specs.Tokens.{Token}
 use Rattle.paper.specs.Comments.{Place, outside, inside, after, visible}
 use Rattle.token.specs.Words.{tokens-from, token-of, Spans}
 use Rattle.token.specs.declared.cursor.Span.{Span}
+use Rattle.token.specs.declared.cursor.Cursor.{Cursor}
 use Rattle.reader.specs.declared.comment.Comment.{Comment}
 use Rattle.reader.specs.declared.comment.Comment.the-variants as comment
 use Rattle.reader.specs.declared.comment.Look.{Look}
@@ -29,23 +30,23 @@ abbrev pub Gap : List ℕ → ℕ → Type 0
 Gap t e = e < length t → white (getD t e 0) ≡ true
 
 abbrev pub Commented : List ℕ → ℕ → Comment → Type 0
-Commented t i (comment.Closed e) = ((p : ℕ) → Passed t i e (inside p) [] outside) × (i ≤ e)
+Commented t i (comment.Closed c) = ((p : ℕ) → Passed t i (c .at) (inside p) [] outside) × (i ≤ c .at)
 Commented t i comment.Never = (p : ℕ) → Passed t i (length t) (inside p) [] (inside p)
 
--- the token x, outside comments, is the first that stands there
-pub record Shows (t : List ℕ) (i : ℕ) (x : Span) : Type 0 where
-  pub passed : Passed t i (x .start) outside [] outside
+-- the token x is the first that stands there outside comments, and the cursor c stands after it
+pub record Shows (t : List ℕ) (i : ℕ) (x : Span) (c : Cursor) : Type 0 where
+  pub passed : Passed t i (c .at) outside (token-of t x ∷ []) outside
   pub onward : i ≤ x .start
-  pub plain : key 40 (token-of t x) ≡ false
   pub whole : Spans t x
+  pub stands : c .at ≡ x .stop
 
 abbrev pub Looked : List ℕ → ℕ → Look → Type 0
-Looked t i (look.Token x) = Shows t i x
-Looked t i (look.Past e) = Passed t i e outside [] outside × (length (tokens-from t e) < length (tokens-from t i)) × (i ≤ e)
+Looked t i (look.Token x c) = Shows t i x c
+Looked t i (look.Past c) = Passed t i (c .at) outside [] outside × (length (tokens-from t (c .at)) < length (tokens-from t i)) × (i ≤ c .at)
 Looked t i (look.Open p) = Passed t i (length t) outside [] (inside p)
 Looked t i look.End = Passed t i (length t) outside [] outside
 
 abbrev pub Seen : List ℕ → ℕ → Visible → Type 0
-Seen t i (vis.Token x) = Shows t i x
+Seen t i (vis.Token x c) = Shows t i x c
 Seen t i (vis.Open p) = Passed t i (length t) outside [] (inside p)
 Seen t i vis.End = Passed t i (length t) outside [] outside

@@ -46,13 +46,13 @@ pub record Running (t w v : List ℕ) (n at most first stop count : ℕ) : Type 
 
 -- whether a math token stands next
 abbrev pub math-next : List ℕ → Visible → Bool
-math-next t (vis.Token x) = math-token (token-of t x)
+math-next t (vis.Token x c) = math-token (token-of t x)
 math-next t (vis.Open p) = false
 math-next t vis.End = false
 
 pub record Ran (t w v : List ℕ) (n at most first : ℕ) (r : Run) : Type 0 where
-  pub run : Running t w v n at most first (r .stop) (r .count)
-  pub after : Seen t (r .stop) (r .after)
+  pub run : Running t w v n at most first (r .stop .at) (r .count)
+  pub after : Seen t (r .stop .at) (r .after)
   pub ends : and (math-next t (r .after)) (ltb (r .count) most) ≡ false
 
 -- a run of which only is kept whether it has a token
@@ -63,12 +63,12 @@ pub record Proving (t : List ℕ) (at stop count : ℕ) : Type 0 where
   pub maths : all math-token ps ≡ true
 
 pub record Proved (t : List ℕ) (at : ℕ) (r : Run) : Type 0 where
-  pub run : Proving t at (r .stop) (r .count)
-  pub after : Seen t (r .stop) (r .after)
+  pub run : Proving t at (r .stop .at) (r .count)
+  pub after : Seen t (r .stop .at) (r .after)
   pub ends : math-next t (r .after) ≡ false
 
 abbrev pub closing-of : List ℕ → Visible → ℕ → ℕ → List ℕ → Closing
-closing-of t (vis.Token x) count least key =
-    choose (and (sameb (token-of t x .bytes) key) (leb least count)) (closing.At x) (closing.Refused (BadToken (x .start)))
+closing-of t (vis.Token x c) count least key =
+    choose (and (sameb (token-of t x .bytes) key) (leb least count)) (closing.At c) (closing.Refused (BadToken (x .start)))
 closing-of t (vis.Open p) count least key = closing.Refused (OpenComment p)
 closing-of t vis.End count least key = closing.Refused (OpenText (length t))

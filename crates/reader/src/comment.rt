@@ -2,35 +2,38 @@
 // A comment runs from the token `$(` to the next token that is exactly `$)`.
 use token::class::class_of;
 use token::cursor::Cursor;
+use token::cursor::DOLLAR;
 use token::cursor::KEY_COMMENT;
+use token::cursor::KEY_COMMENT_END;
 use token::cursor::Next;
 use token::cursor::Span;
 use token::cursor::is_key;
 ghost use mathlib.Core.Path.{_≡_};
 ghost use Rattle.token.specs.Class.{classes};
-ghost use Prim.Native.Nat.{_+_, _<_, _≤_};
+ghost use Prim.Native.Nat.{_<_, _≤_};
 ghost use lib.ListN.{length, drop};
 ghost use Rattle.paper.specs.Base.{and};
-ghost use Rattle.reader.specs.Dollar.{Dollar, gap-first, shuts, opens-at};
+ghost use Rattle.reader.specs.Dollar.{Dollar, gap-first, closes-first, opens-at};
 ghost use Rattle.reader.specs.Passed.{Commented, Looked, Seen};
 
-/// Where a comment closes: the place after its `$)`, or nowhere.
+/// Where a comment closes: the cursor after its `$)`, or nowhere.
 pub enum Comment {
-    Closed(usize),
+    Closed(Cursor),
     Never,
 }
 
-/// What a token is outside comments: shown, the start of a comment that is never closed, or of one that stops there; or no more.
+/// What a token is outside comments: shown, with the cursor after it, the start of a comment that is never closed, or of one
+/// with the cursor after it; or no more.
 pub enum Look {
-    Token(Span),
-    Past(usize),
+    Token(Span, Cursor),
+    Past(Cursor),
     Open(usize),
     End,
 }
 
-/// What stands next outside comments: a token, a comment never closed, or no more.
+/// What stands next outside comments: a token, with the cursor after it, a comment never closed, or no more.
 pub enum Visible {
-    Token(Span),
+    Token(Span, Cursor),
     Open(usize),
     End,
 }
@@ -42,7 +45,7 @@ pub fn next_dollar(text: &[u8], at: usize) -> usize
 {
     let mut i = at;
     while i < text.len() {
-        if text[i] == 36 {
+        if text[i] == DOLLAR {
             return i;
         }
         i += 1;
@@ -72,29 +75,30 @@ pub fn opens_here(table: &[u8; 256], text: &[u8], at: usize, i: usize) -> bool
     class_of(table, text[i - 1]) == 1
 }
 
-/// Whether the token `$)` starts at `i`, where a `$` stands in a comment that goes on from `at`.
+/// Whether the token `$)` starts at `i`, in a comment that goes on from `at`.
 pub fn closes_at(table: &[u8; 256], text: &[u8], at: usize, i: usize) -> bool
     requires { ⌜ (now table ≡ classes) × (at ≤ i) × (i < length (now text)) ⌝ }
-    ensures { λ r. ⌜ r ≡ and (opens-at (now (text .entry)) at i) (shuts (drop (i + 1) (now (text .entry)))) ⌝ }
+    ensures { λ r. ⌜ r ≡ and (opens-at (now (text .entry)) at i) (closes-first (drop i (now (text .entry)))) ⌝ }
 {
     if !opens_here(table, text, at, i) {
         return false;
     }
-    let j = i + 1;
-    if text.len() <= j {
+    let stop = i + 2;
+    if text.len() < stop {
         return false;
     }
-    if text[j] != 41 {
+    if !is_key(&text[i..stop], KEY_COMMENT_END) {
         return false;
     }
-    gap_at(table, text, j + 1)
+    gap_at(table, text, stop)
 }
 
-/// The end of the comment that goes on from `at`, the place after its `$(`.
-pub fn comment_end(table: &[u8; 256], text: &[u8], at: usize) -> Comment
-    requires { ⌜ (now table ≡ classes) × (at ≤ length (now text)) ⌝ }
-    ensures { λ r. ⌜ Commented (now (text .entry)) at r ⌝ }
+/// The end of the comment that goes on from `c`, the cursor after its `$(`.
+pub fn comment_end(table: &[u8; 256], text: &[u8], c: Cursor) -> Comment
+    requires { ⌜ (now table ≡ classes) × (c .at ≤ length (now text)) ⌝ }
+    ensures { λ r. ⌜ Commented (now (text .entry)) (c .at) r ⌝ }
 {
+    let at = c.at;
     let mut i = at;
     loop {
         let k = next_dollar(text, i);
@@ -102,45 +106,44 @@ pub fn comment_end(table: &[u8; 256], text: &[u8], at: usize) -> Comment
             return Comment::Never;
         }
         if closes_at(table, text, at, k) {
-            return Comment::Closed(k + 2);
+            return Comment::Closed(Cursor { at: k + 2 });
         }
         i = k + 1;
     }
 }
 
-/// The first token from `at` on, by whether it begins a comment.
-pub fn look_at(table: &[u8; 256], text: &[u8], at: usize) -> Look
+/// The first token from `c` on, by whether it begins a comment.
+pub fn look_at(table: &[u8; 256], text: &[u8], c: Cursor) -> Look
     requires { ⌜ now table ≡ classes ⌝ }
-    ensures { λ r. ⌜ Looked (now (text .entry)) at r ⌝ }
+    ensures { λ r. ⌜ Looked (now (text .entry)) (c .at) r ⌝ }
 {
-    let c = Cursor { at: at };
     let Next::Token(x, d) = c.next(table, text) else {
         return Look::End;
     };
     if 3 <= x.least {
-        return Look::Token(x);
+        return Look::Token(x, d);
     }
     let start = x.start;
     let stop = x.stop;
     if !is_key(&text[start..stop], KEY_COMMENT) {
-        return Look::Token(x);
+        return Look::Token(x, d);
     }
-    let Comment::Closed(after) = comment_end(table, text, stop) else {
+    let Comment::Closed(after) = comment_end(table, text, d) else {
         return Look::Open(start);
     };
     Look::Past(after)
 }
 
-/// The first token from `at` on that stands outside comments.
-pub fn next_visible(table: &[u8; 256], text: &[u8], at: usize) -> Visible
+/// The first token from `c` on that stands outside comments.
+pub fn next_visible(table: &[u8; 256], text: &[u8], c: Cursor) -> Visible
     requires { ⌜ now table ≡ classes ⌝ }
-    ensures { λ r. ⌜ Seen (now (text .entry)) at r ⌝ }
+    ensures { λ r. ⌜ Seen (now (text .entry)) (c .at) r ⌝ }
 {
-    let mut i = at;
+    let mut i = c;
     loop {
         match look_at(table, text, i) {
-            Look::Token(x) => return Visible::Token(x),
-            Look::Past(e) => i = e,
+            Look::Token(x, d) => return Visible::Token(x, d),
+            Look::Past(d) => i = d,
             Look::Open(p) => return Visible::Open(p),
             Look::End => return Visible::End,
         }

@@ -17,6 +17,7 @@ use crate::state::Turn;
 use crate::state::keep;
 use area::bucket;
 use paper::Refusal;
+use token::cursor::Cursor;
 use token::cursor::KEY_CLOSE;
 use token::cursor::KEY_OPEN;
 use token::cursor::KEY_STOP;
@@ -31,7 +32,7 @@ ghost use Rattle.reader.specs.Held.{Held, Begun, Stated, Turned, Taken};
 ghost use Rattle.area.specs.Cells.{bucket-cell};
 ghost use lib.ListN.{set};
 
-/// Reads the proof of a `$p` from `at` on, and keeps the statement.
+/// Reads the proof of a `$p` from `c` on, and keeps the statement.
 pub fn read_rest(
     table: &[u8; 256],
     text: &[u8],
@@ -41,18 +42,15 @@ pub fn read_rest(
     h: Head,
     to: usize,
     count: usize,
-    at: usize,
+    c: Cursor,
 ) -> Turn
-    requires { ⌜ (now table ≡ classes) × Stated (now text) (now work) n s h to count at ⌝ }
-    ensures { λ r. ⌜ Turned (now (text .entry)) (now (work .exit)) n (s .at) r ⌝ }
+    requires { ⌜ (now table ≡ classes) × Stated (now text) (now work) n s h to count (c .at) ⌝ }
+    ensures { λ r. ⌜ Turned (now (text .entry)) (now (work .exit)) n (s .cursor .at) r ⌝ }
 {
-    let proof = read_proof(table, text, at);
+    let proof = read_proof(table, text, c);
     match close_run(text, proof, 1, KEY_STOP) {
         Closing::Refused(x) => Turn::Refused(x),
-        Closing::At(x) => {
-            let stop = x.stop;
-            Turn::Next(keep(work, s, h, to, count, stop))
-        }
+        Closing::At(d) => Turn::Next(keep(work, s, h, to, count, d)),
     }
 }
 
@@ -66,23 +64,23 @@ pub fn read_body(
     h: Head,
 ) -> Turn
     requires { ⌜ (now table ≡ classes) × Begun (now text) (now work) n s h ⌝ }
-    ensures { λ r. ⌜ Turned (now (text .entry)) (now (work .exit)) n (s .at) r ⌝ }
+    ensures { λ r. ⌜ Turned (now (text .entry)) (now (work .exit)) n (s .cursor .at) r ⌝ }
 {
     let kind = h.kind;
     let run = read_run(table, text, work, n, h.from, most_of(kind), s.maths);
     match close_run(text, run, least_of(kind), closing_of(kind)) {
         Closing::Refused(x) => Turn::Refused(x),
-        Closing::At(x) => {
-            let stop = x.stop;
+        Closing::At(d) => {
+            let to = run.stop.at;
             if kind == 7 {
-                return read_rest(table, text, work, n, s, h, run.stop, run.count, stop);
+                return read_rest(table, text, work, n, s, h, to, run.count, d);
             }
-            Turn::Next(keep(work, s, h, run.stop, run.count, stop))
+            Turn::Next(keep(work, s, h, to, run.count, d))
         }
     }
 }
 
-/// Reads the statement whose label is x.
+/// Reads the statement whose label is x, with the cursor c after it.
 pub fn read_labelled(
     table: &[u8; 256],
     text: &[u8],
@@ -90,16 +88,17 @@ pub fn read_labelled(
     n: usize,
     s: State,
     x: Span,
+    c: Cursor,
 ) -> Turn
-    requires { ⌜ (now table ≡ classes) × Held (now text) (now work) n s × Shows (now text) (s .at) x × (4 ≤ x .least) ⌝ }
-    ensures { λ r. ⌜ Turned (now (text .entry)) (now (work .exit)) n (s .at) r ⌝ }
+    requires { ⌜ (now table ≡ classes) × Held (now text) (now work) n s × Shows (now text) (s .cursor .at) x c × (4 ≤ x .least) ⌝ }
+    ensures { λ r. ⌜ Turned (now (text .entry)) (now (work .exit)) n (s .cursor .at) r ⌝ }
 {
     let start = x.start;
     let stop = x.stop;
-    match next_visible(table, text, stop) {
+    match next_visible(table, text, c) {
         Visible::End => Turn::Refused(Refusal::OpenText(text.len() as u64)),
         Visible::Open(p) => Turn::Refused(Refusal::OpenComment(p as u64)),
-        Visible::Token(y) => {
+        Visible::Token(y, d) => {
             let kind = label_code(text, y);
             if kind == 0 {
                 return Turn::Refused(Refusal::BadToken(y.start as u64));
@@ -108,22 +107,22 @@ pub fn read_labelled(
                 kind: kind,
                 at: start,
                 label: stop - start,
-                from: y.stop,
+                from: d,
             };
             read_body(table, text, work, n, s, h)
         }
     }
 }
 
-/// Opens a group.
-pub fn open_group(work: &mut [u32], n: usize, s: State, at: usize) -> State
+/// Opens a group; the state after it, at `c`.
+pub fn open_group(work: &mut [u32], n: usize, s: State, c: Cursor) -> State
     requires { ⌜ EventRoom (now work) n s ⌝ }
-    ensures { λ r. ⌜ (now (work .exit) ≡ set (now (work .entry)) (bucket-cell n (s .items)) 1) × (r ≡ opened s at) ⌝ }
+    ensures { λ r. ⌜ (now (work .exit) ≡ set (now (work .entry)) (bucket-cell n (s .items)) 1) × (r ≡ opened s c) ⌝ }
 {
     let cell = bucket(n, s.items);
     work[cell] = 1;
     State {
-        at: at,
+        cursor: c,
         rows: s.rows,
         maths: s.maths,
         items: s.items + 1,
@@ -131,15 +130,15 @@ pub fn open_group(work: &mut [u32], n: usize, s: State, at: usize) -> State
     }
 }
 
-/// Closes a group at its `$}`.
-pub fn close_group(work: &mut [u32], n: usize, s: State, start: usize, at: usize) -> State
+/// Closes a group at its `$}`; the state after it, at `c`.
+pub fn close_group(work: &mut [u32], n: usize, s: State, start: usize, c: Cursor) -> State
     requires { ⌜ EventRoom (now work) n s × (0 < s .depth) × (start ≤ 16777216) ⌝ }
-    ensures { λ r. ⌜ (now (work .exit) ≡ set (now (work .entry)) (bucket-cell n (s .items)) (start + 2)) × (r ≡ shut-one s at) ⌝ }
+    ensures { λ r. ⌜ (now (work .exit) ≡ set (now (work .entry)) (bucket-cell n (s .items)) (start + 2)) × (r ≡ shut-one s c) ⌝ }
 {
     let cell = bucket(n, s.items);
     work[cell] = (start + 2) as u32;
     State {
-        at: at,
+        cursor: c,
         rows: s.rows,
         maths: s.maths,
         items: s.items + 1,
@@ -147,7 +146,7 @@ pub fn close_group(work: &mut [u32], n: usize, s: State, start: usize, at: usize
     }
 }
 
-/// Reads what the token x begins.
+/// Reads what the token x begins, with the cursor c after it.
 pub fn read_from(
     table: &[u8; 256],
     text: &[u8],
@@ -155,23 +154,24 @@ pub fn read_from(
     n: usize,
     s: State,
     x: Span,
+    c: Cursor,
 ) -> Turn
-    requires { ⌜ (now table ≡ classes) × Held (now text) (now work) n s × Shows (now text) (s .at) x ⌝ }
-    ensures { λ r. ⌜ Turned (now (text .entry)) (now (work .exit)) n (s .at) r ⌝ }
+    requires { ⌜ (now table ≡ classes) × Held (now text) (now work) n s × Shows (now text) (s .cursor .at) x c ⌝ }
+    ensures { λ r. ⌜ Turned (now (text .entry)) (now (work .exit)) n (s .cursor .at) r ⌝ }
 {
     if 4 <= x.least {
-        return read_labelled(table, text, work, n, s, x);
+        return read_labelled(table, text, work, n, s, x, c);
     }
     let start = x.start;
     let stop = x.stop;
     if is_key(&text[start..stop], KEY_OPEN) {
-        return Turn::Next(open_group(work, n, s, stop));
+        return Turn::Next(open_group(work, n, s, c));
     }
     if is_key(&text[start..stop], KEY_CLOSE) {
         if s.depth == 0 {
             return Turn::Refused(Refusal::BadToken(start as u64));
         }
-        return Turn::Next(close_group(work, n, s, start, stop));
+        return Turn::Next(close_group(work, n, s, start, c));
     }
     let kind = plain_code(text, x);
     if kind == 0 {
@@ -181,7 +181,7 @@ pub fn read_from(
         kind: kind,
         at: start,
         label: 0,
-        from: stop,
+        from: c,
     };
     read_body(table, text, work, n, s, h)
 }
@@ -189,11 +189,11 @@ pub fn read_from(
 /// Reads the next item.
 pub fn read_one(table: &[u8; 256], text: &[u8], work: &mut [u32], n: usize, s: State) -> Turn
     requires { ⌜ (now table ≡ classes) × Held (now text) (now work) n s ⌝ }
-    ensures { λ r. ⌜ Taken (now (text .entry)) (now (work .entry)) (now (work .exit)) n (s .at) r ⌝ }
+    ensures { λ r. ⌜ Taken (now (text .entry)) (now (work .entry)) (now (work .exit)) n (s .cursor .at) r ⌝ }
 {
-    match next_visible(table, text, s.at) {
+    match next_visible(table, text, s.cursor) {
         Visible::End => Turn::End,
         Visible::Open(p) => Turn::Refused(Refusal::OpenComment(p as u64)),
-        Visible::Token(x) => read_from(table, text, work, n, s, x),
+        Visible::Token(x, c) => read_from(table, text, work, n, s, x, c),
     }
 }

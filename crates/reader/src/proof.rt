@@ -4,6 +4,7 @@ use crate::comment::Visible;
 use crate::comment::next_visible;
 use crate::run::Run;
 use token::class::class_of;
+use token::cursor::Cursor;
 ghost use mathlib.Core.Path.{_≡_};
 ghost use Prim.Native.Nat.{_≤_};
 ghost use lib.ListN.{length};
@@ -45,26 +46,27 @@ pub fn start_of(table: &[u8; 256], text: &[u8], at: usize, k: usize) -> usize
     i
 }
 
-/// A place from `at` on up to which only math tokens stand. A token starts there, or the text ends, and the bytes of that
+/// A cursor from `c` on up to which only math tokens stand. A token starts there, or the text ends, and the bytes of that
 /// token alone are read again: after it the proof goes on only where it starts a comment.
-pub fn past_math(table: &[u8; 256], text: &[u8], at: usize) -> usize
-    requires { ⌜ (now table ≡ classes) × (at ≤ length (now text)) ⌝ }
-    ensures { λ r. ⌜ Hopped (now (text .entry)) at r ⌝ }
+pub fn past_math(table: &[u8; 256], text: &[u8], c: Cursor) -> Cursor
+    requires { ⌜ (now table ≡ classes) × (c .at ≤ length (now text)) ⌝ }
+    ensures { λ r. ⌜ Hopped (now (text .entry)) (c .at) (r .at) ⌝ }
 {
-    let k = next_odd(table, text, at);
-    start_of(table, text, at, k)
+    let k = next_odd(table, text, c.at);
+    let start = start_of(table, text, c.at, k);
+    Cursor { at: start }
 }
 
-/// The longest run of math tokens from `at` on, counted only as none (0) or some (1).
-pub fn read_proof(table: &[u8; 256], text: &[u8], at: usize) -> Run
+/// The longest run of math tokens from `c` on, counted only as none (0) or some (1).
+pub fn read_proof(table: &[u8; 256], text: &[u8], c: Cursor) -> Run
     requires { ⌜ now table ≡ classes ⌝ }
-    ensures { λ r. ⌜ Proved (now (text .entry)) at r ⌝ }
+    ensures { λ r. ⌜ Proved (now (text .entry)) (c .at) r ⌝ }
 {
-    let mut stop = at;
+    let mut stop = c;
     let mut some: usize = 0;
     loop {
         let after = next_visible(table, text, stop);
-        let Visible::Token(x) = after else {
+        let Visible::Token(x, d) = after else {
             return Run {
                 count: some,
                 stop: stop,
@@ -79,6 +81,6 @@ pub fn read_proof(table: &[u8; 256], text: &[u8], at: usize) -> Run
             };
         }
         some = 1;
-        stop = past_math(table, text, x.stop);
+        stop = past_math(table, text, d);
     }
 }

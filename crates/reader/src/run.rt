@@ -4,6 +4,7 @@ use crate::comment::Visible;
 use crate::comment::next_visible;
 use area::math;
 use paper::Refusal;
+use token::cursor::Cursor;
 use token::cursor::Span;
 use token::cursor::is_key;
 ghost use mathlib.Core.Path.{_≡_};
@@ -15,16 +16,16 @@ ghost use Rattle.token.specs.Class.{classes};
 ghost use Rattle.reader.specs.Passed.{Seen};
 ghost use Rattle.reader.specs.Runs.{RunRoom, Ran, closing-of};
 
-/// A run of math tokens: how many, the place after the last, and what stands next.
+/// A run of math tokens: how many, the cursor after the last, and what stands next.
 pub struct Run {
     pub count: usize,
-    pub stop: usize,
+    pub stop: Cursor,
     pub after: Visible,
 }
 
-/// How a run closes: at a keyword, or refused.
+/// How a run closes: at a keyword, with the cursor after it, or refused.
 pub enum Closing {
-    At(Span),
+    At(Cursor),
     Refused(Refusal),
 }
 
@@ -38,24 +39,24 @@ pub fn takes(x: Span, count: usize, most: usize) -> bool
     count < most
 }
 
-/// The longest run of at most `most` math tokens from `at` on; their offsets stand in the math column from `first` on.
+/// The longest run of at most `most` math tokens from `c` on; their offsets stand in the math column from `first` on.
 pub fn read_run(
     table: &[u8; 256],
     text: &[u8],
     work: &mut [u32],
     n: usize,
-    at: usize,
+    c: Cursor,
     most: usize,
     first: usize,
 ) -> Run
-    requires { ⌜ (now table ≡ classes) × RunRoom (now text) (now work) n at first ⌝ }
-    ensures { λ r. ⌜ Ran (now (text .entry)) (now (work .entry)) (now (work .exit)) n at most first r ⌝ }
+    requires { ⌜ (now table ≡ classes) × RunRoom (now text) (now work) n (c .at) first ⌝ }
+    ensures { λ r. ⌜ Ran (now (text .entry)) (now (work .entry)) (now (work .exit)) n (c .at) most first r ⌝ }
 {
-    let mut stop = at;
+    let mut stop = c;
     let mut count: usize = 0;
     loop {
         let after = next_visible(table, text, stop);
-        let Visible::Token(x) = after else {
+        let Visible::Token(x, d) = after else {
             return Run {
                 count: count,
                 stop: stop,
@@ -72,20 +73,20 @@ pub fn read_run(
         let cell = math(n, first + count);
         work[cell] = x.start as u32;
         count += 1;
-        stop = x.stop;
+        stop = d;
     }
 }
 
 /// The keyword that closes a run of at least `least` tokens.
 pub fn close_run(text: &[u8], run: Run, least: usize, key: [u8; 2]) -> Closing
-    requires { ⌜ Seen (now text) (run .stop) (run .after) ⌝ }
+    requires { ⌜ Seen (now text) (run .stop .at) (run .after) ⌝ }
     ensures { λ r. ⌜ r ≡ closing-of (now (text .entry)) (run .after) (run .count) least (getD key 0 0 ∷ getD key 1 0 ∷ []) ⌝ }
 {
     let after = run.after;
     match after {
         Visible::End => Closing::Refused(Refusal::OpenText(text.len() as u64)),
         Visible::Open(p) => Closing::Refused(Refusal::OpenComment(p as u64)),
-        Visible::Token(x) => {
+        Visible::Token(x, d) => {
             let start = x.start;
             let stop = x.stop;
             if run.count < least {
@@ -94,7 +95,7 @@ pub fn close_run(text: &[u8], run: Run, least: usize, key: [u8; 2]) -> Closing
             if !is_key(&text[start..stop], key) {
                 return Closing::Refused(Refusal::BadToken(start as u64));
             }
-            Closing::At(x)
+            Closing::At(d)
         }
     }
 }

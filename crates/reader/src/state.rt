@@ -9,24 +9,25 @@ use area::LABEL;
 use area::TO;
 use area::statement;
 use paper::Refusal;
+use token::cursor::Cursor;
 ghost use mathlib.Core.Path.{_≡_};
 ghost use Rattle.reader.specs.Kept.{RowRoom, with-row, next-state};
 
-/// The place, and how many statements, math tokens and items stand before it, and how many groups are open.
+/// The cursor, and how many statements, math tokens and items stand before it, and how many groups are open.
 pub struct State {
-    pub at: usize,
+    pub cursor: Cursor,
     pub rows: usize,
     pub maths: usize,
     pub items: usize,
     pub depth: usize,
 }
 
-/// The head of a statement: kind, first token, label length (0 for none), and the place after the keyword.
+/// The head of a statement: kind, first token, label length (0 for none), and the cursor after the keyword.
 pub struct Head {
     pub kind: u32,
     pub at: usize,
     pub label: usize,
-    pub from: usize,
+    pub from: Cursor,
 }
 
 /// What reading one item gives: the state after it, a refusal, or the end of the text.
@@ -36,10 +37,10 @@ pub enum Turn {
     End,
 }
 
-/// Fills the row of a statement, but for its end; the state after it.
-pub fn keep(work: &mut [u32], s: State, h: Head, to: usize, count: usize, at: usize) -> State
+/// Fills the row of a statement whose math string stops at `to`, but for its end; the state after it, at `c`.
+pub fn keep(work: &mut [u32], s: State, h: Head, to: usize, count: usize, c: Cursor) -> State
     requires { ⌜ RowRoom (now work) s h to count ⌝ }
-    ensures { λ r. ⌜ (now (work .exit) ≡ with-row (now (work .entry)) (s .rows) h to (s .maths) count) × (r ≡ next-state s count at) ⌝ }
+    ensures { λ r. ⌜ (now (work .exit) ≡ with-row (now (work .entry)) (s .rows) h to (s .maths) count) × (r ≡ next-state s count c) ⌝ }
 {
     let row = s.rows;
     let first = s.maths;
@@ -50,7 +51,7 @@ pub fn keep(work: &mut [u32], s: State, h: Head, to: usize, count: usize, at: us
     let label_cell = statement(row, LABEL);
     work[label_cell] = h.label as u32;
     let from_cell = statement(row, FROM);
-    work[from_cell] = h.from as u32;
+    work[from_cell] = h.from.at as u32;
     let to_cell = statement(row, TO);
     work[to_cell] = to as u32;
     let first_cell = statement(row, FIRST);
@@ -58,7 +59,7 @@ pub fn keep(work: &mut [u32], s: State, h: Head, to: usize, count: usize, at: us
     let count_cell = statement(row, COUNT);
     work[count_cell] = count as u32;
     State {
-        at: at,
+        cursor: c,
         rows: row + 1,
         maths: first + count,
         items: s.items + 1,

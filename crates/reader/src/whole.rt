@@ -8,6 +8,7 @@ use area::clear;
 use area::clear_part;
 use paper::Reading;
 use paper::Refusal;
+use token::cursor::Cursor;
 ghost use mathlib.Core.Path.{_≡_};
 ghost use mathlib.Core.List.{[]};
 ghost use Rattle.token.specs.Class.{classes};
@@ -26,7 +27,7 @@ pub fn read_all(table: &[u8; 256], text: &[u8], work: &mut [u32], n: usize) -> A
     ensures { λ r. ⌜ AllRead (now (text .entry)) (now (work .exit)) n r ⌝ }
 {
     let mut s = State {
-        at: 0,
+        cursor: Cursor { at: 0 },
         rows: 0,
         maths: 0,
         items: 0,

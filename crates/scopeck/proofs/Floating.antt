@@ -30,7 +30,7 @@ use Rattle.checks.proofs.OverRows.{seen-here}
 use Rattle.scopeck.specs.declared.Scope.{Scope}
 use Rattle.scopeck.specs.declared.Row.{Row}
 use Rattle.scopeck.specs.declared.Owner.the-variants as own
-use Rattle.scopeck.specs.Scope.{row-of, Owns, moved, Ready, Gives}
+use Rattle.scopeck.specs.Scope.{row-of, Owns, moved, Ready, GivesPart}
 use Rattle.scopeck.proofs.Ready.{apart-of, kind-f, kind-of, row-room, here-of}
 use Rattle.scopeck.proofs.Gives.{given-by, accept-some, told-some, told-nothing, nested-next, hyps-next, atoms-fit, ess-still, dis-still, rejected}
 use Rattle.scopeck.proofs.Labelled.{owned}
@@ -80,10 +80,10 @@ module _ {w out out′ : List ℕ} {n : ℕ} {st : Scope} {k p c a : ℕ} {r : R
       let ek = kind-f (stmt l k .kind) (kind-of b kw) in
       given-by l k ek ∙ rw (owned {st = st} e b (ap labelled ek) o)
 
-  pub float-rejected : {s : Scope} → s ≡ moved st p → p ≢ st .diags → Gives w w out out′ n st s k
+  pub float-rejected : {q : List ℕ} {s : Scope} → s ≡ moved st p → p ≢ st .diags → GivesPart w w q out out′ n st s k
   float-rejected es ne =
       record {
-        sim = λ {t} {l} b.
+        sim = λ {t} {l} b pq.
             let d = check-float l (view-at l k) (stmt l k) in
             let g = float-told b in
             let h = told-some d g ne in
@@ -91,10 +91,10 @@ module _ {w out out′ : List ℕ} {n : ℕ} {st : Scope} {k p c a : ℕ} {r : R
             (rejected b {d = d} (kept-none n 12 12 6 7 w) (b .stands .marks) (float-given b ∙ accept-some d _ _ h) h (omega (arith, x .few)) g);
       }
 
-  pub float-accepted : {u : List ℕ} {s : Scope} → s ≡ moved st p → p ≡ st .diags → u ≡ with-float w n a k → Gives w u out out′ n st s k
+  pub float-accepted : {u q : List ℕ} {s : Scope} → s ≡ moved st p → p ≡ st .diags → u ≡ with-float w n a k → GivesPart w u q out out′ n st s k
   float-accepted es eq eu =
       record {
-        sim = λ {t} {l} b.
+        sim = λ {t} {l} b pq.
             let h = here-of b e in
             let ek = kind-f (stmt l k .kind) (kind-of b kw) in
             let two = b .facts .shaped k (b .inside) .two ek in

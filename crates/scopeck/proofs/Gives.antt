@@ -4,25 +4,18 @@ use mathlib.Core.Path.{_≡_, refl, ap, _∙_}
 use mathlib.Core.Logic.{_≢_}
 use mathlib.Core.Bool.{Bool, true, false}
 use mathlib.Core.List.{List, [], _∷_, _++_, append-nil}
-use mathlib.Core.Option.{Option, none, some}
 use Prim.Native.Nat.{ℕ, _+_, _*_, _<_, _≤_}
 use native.Mathlib.Omega.{arith}
-use lib.Dec.{eqb}
 use lib.ListN.{length}
 use Rattle.paper.specs.Base.{and, gather}
-use Rattle.paper.specs.Tokens.{Token}
 use Rattle.paper.specs.Statements.{Kind, Statement}
 use Rattle.paper.specs.State.{State, nothing}
-use Rattle.paper.specs.Checks.{Diag, label-diags}
+use Rattle.paper.specs.Checks.{Diag}
 use Rattle.paper.specs.Frames.{Frame}
 use Rattle.paper.specs.Give as give
 use Rattle.paper.specs.Records.{diag-record}
-use Rattle.paper.proofs.Tests.{split}
 use Rattle.reader.specs.Rows.{stmt}
-use Rattle.paper.specs.declared.Atom.{Atom}
 use Rattle.nameck.specs.Atoms.{atoms}
-use Rattle.nameck.specs.Lookups.{owner-answer, Owned}
-use Rattle.nameck.specs.declared.lookup.Owner as label
 use Rattle.facts.specs.States.{state-at, view-at, given-at}
 use Rattle.facts.proofs.States.{state-next}
 use Rattle.history.specs.Accepted.{no-diags, accepted, is-essential, is-disjoint, rows-of}
@@ -37,9 +30,7 @@ use Rattle.slots.proofs.Stacks.{stack-kept, stack-next}
 use Rattle.checks.proofs.Found.{told-length, none-told}
 use Rattle.checks.proofs.Ones.{same-told}
 use Rattle.scopeck.specs.declared.Scope.{Scope}
-use Rattle.scopeck.specs.declared.Owner.{Owner}
-use Rattle.scopeck.specs.declared.Owner.the-variants as own
-use Rattle.scopeck.specs.Scope.{own-by, Owns, moved, Ready, Given}
+use Rattle.scopeck.specs.Scope.{moved, Ready, Given}
 use Rattle.scopeck.proofs.Ready.{row-room}
 
 -- ---- the definitions' shapes
@@ -77,29 +68,6 @@ told-some d w h e = h (omega (arith, w .place, told-length d, e))
 
 pub told-nothing : {out out′ : List ℕ} {at p : ℕ} (d : List Diag) → Wrote out out′ at p (gather diag-record d) → p ≡ at → d ≡ []
 told-nothing d w h = none-told d (omega (arith, w .place, told-length d))
-
--- ---- owners
-pub owns-by : {w : List ℕ} {n a s : ℕ} {o : label.Owner} {r : Owner} → Owned w n a o → r ≡ own-by o s a → Owns w n a s r
-owns-by {a = a} {s} x e = record { is = λ h k. e ∙ ap (λ (b : label.Owner). own-by b s a) (x .is h k) }
-
-pub owns-none : (o : Option Token) (z : Statement) (a : ℕ) → own.Nothing ≡ own-by (owner-answer o) (z .at) a → length (label-diags o z) ≢ 0
-owns-none none z a e = absurd (no e)
-  where
-    no : own.Nothing ≡ own.Own (record { 0 = a }) → ⊥
-    no e = let y : _≡_ {A = ℕ} 0 1 = cc in omega arith
-owns-none (some b) z a e =
-    split (eqb (b .at) (z .at)) (λ q. absurd (no (rw q at e))) (λ q. rw q (λ i. omega (arith, i)))
-  where
-    no : own.Nothing ≡ own.Own (record { 0 = a }) → ⊥
-    no e = let y : _≡_ {A = ℕ} 0 1 = cc in omega arith
-
-pub owns-some : (o : Option Token) (z : Statement) (a : ℕ) {x : Atom} → own.Own x ≡ own-by (owner-answer o) (z .at) a → label-diags o z ≡ []
-owns-some none z a e = refl
-owns-some (some b) z a {x} e =
-    split (eqb (b .at) (z .at)) (λ q. rw q) (λ q. absurd (no (rw q at e)))
-  where
-    no : own.Own x ≡ own.Nothing → ⊥
-    no e = let y : _≡_ {A = ℕ} 0 1 = cc in omega arith
 
 -- ---- what is recorded next
 pub nested-next : (l : List Statement) (k : ℕ) {r : State} → given-at l k .records ≡ r → state-at l (k + 1) .nested ≡ state-at l k .nested ++ r .nested

@@ -9,7 +9,7 @@ use native.Mathlib.Omega.{arith}
 use lib.ListN.{length, set}
 use Rattle.paper.specs.Base.{and, gather}
 use Rattle.paper.specs.Statements.{Kind, $c, $v, $d, $f, $e, $a, $p, labelled, Statement}
-use Rattle.paper.specs.Names.{owner, declarations}
+use Rattle.paper.specs.Names.{declarations}
 use Rattle.paper.specs.State.{Hyp, essential, nothing, view}
 use Rattle.paper.specs.Checks.{Diag, check-label, check-expression}
 use Rattle.paper.specs.Variables.{formula}
@@ -25,7 +25,6 @@ use Rattle.facts.proofs.Sense.{kind-none}
 use Rattle.history.specs.Accepted.{no-diags, accepted, is-essential, is-disjoint}
 use Rattle.history.proofs.Active.{rows-next}
 use Rattle.stream.specs.Wrote.{Wrote}
-use Rattle.nameck.specs.Lookups.{owner-answer}
 use Rattle.slots.specs.Slots.{Atomic}
 use Rattle.slots.proofs.Kept.{kept-none, kept-wide, kept-statement}
 use Rattle.slots.proofs.Slots.{nests-kept, floats-essential, floats-kept, floats-later}
@@ -38,28 +37,51 @@ use Rattle.scopeck.specs.declared.Scope.{Scope}
 use Rattle.scopeck.specs.declared.Row.{Row}
 use Rattle.scopeck.specs.declared.Owner.{Owner}
 use Rattle.scopeck.specs.declared.Owner.the-variants as own
-use Rattle.scopeck.specs.Scope.{row-of, own-by, Owns, moved, with-essential, Ready, Gives}
+use Rattle.scopeck.specs.Scope.{row-of, Borne, own-by, Owns, moved, with-essential, Ready, GivesPart}
+use Rattle.scopeck.proofs.Owners.{Bearer, bearer-of, owns-none, owns-some}
 use Rattle.scopeck.proofs.Ready.{kind-e, kind-large, kind-of, row-room, here-of, walk-of, label-atomic}
-use Rattle.scopeck.proofs.Gives.{given-by, unless-some, accept-some, accept-diags, accept-nothing, told-some, told-nothing, owns-none, owns-some, nested-next, hyps-next, atoms-fit, entry-room, dis-still, quiet, rejected}
+use Rattle.scopeck.proofs.Gives.{given-by, unless-some, accept-some, accept-diags, accept-nothing, told-some, told-nothing, nested-next, hyps-next, atoms-fit, entry-room, dis-still, quiet, rejected}
 
 -- ---- labels
 module _ {w : List ℕ} {n : ℕ} {st : Scope} {k : ℕ} {r : Row} (e : r ≡ row-of w k) {t : List ℕ} {l : List Statement} (b : Ready t w n l st k) (lab : labelled (stmt l k .kind) ≡ true) where
   row-label : Atomic l (r .label .0) (stmt l k .label)
   row-label = rw e (label-atomic b lab)
 
-  owner-is : {x : Owner} → Owns w n (r .label .0) (r .at .0) x → x ≡ own-by (owner-answer (owner l (stmt l k .label))) (stmt l k .at) (r .label .0)
-  owner-is o = o .is (b .named) (row-label .below) ∙ rw (row-label .name, here-of b e .at)
+  first : Bearer l (stmt l k .label)
+  first = bearer-of l k (b .inside) lab
+
+  -- its label has an owner
+  borne-of : Borne w n (r .label .0)
+  borne-of =
+      record {
+        text = t;
+        of = l;
+        named = b .named;
+        below = row-label .below;
+        first = first .token;
+        owned = rw (row-label .name) (first .is);
+      }
+
+  owner-is : {x : Owner} → Owns w n (r .label .0) (r .at .0) x → x ≡ own-by (first .token .at) (stmt l k .at) (r .label .0)
+  owner-is o =
+      o .is (first .token) (b .named) (row-label .below) (rw (row-label .name) (first .is))
+      ∙ ap (λ (i : ℕ). own-by (first .token .at) i (r .label .0)) (here-of b e .at)
 
   fails : Owns w n (r .label .0) (r .at .0) own.Nothing → length (check-label l (stmt l k)) ≢ 0
   unfolding check-label
-  fails o = owns-none (owner l (stmt l k .label)) (stmt l k) (r .label .0) (owner-is o)
+  fails o = rw (first .is) (owns-none (first .token) (stmt l k) (r .label .0) (owner-is o))
 
   pub owned : {x : Atom} → Owns w n (r .label .0) (r .at .0) (own.Own x) → check-label l (stmt l k) ≡ []
   unfolding check-label
-  owned o = owns-some (owner l (stmt l k .label)) (stmt l k) (r .label .0) (owner-is o)
+  owned o = rw (first .is) (owns-some (first .token) (stmt l k) (r .label .0) (owner-is o))
 
   label-told : {out out′ : List ℕ} {p : ℕ} → Label w out out′ n (st .diags) p (r .label .0) (r .at .0) → Wrote out out′ (st .diags) p (gather diag-record (check-label l (stmt l k)))
   label-told x = x .sim (stmt l k) (b .named) row-label (sym (here-of b e .at))
+
+pub borne-at : {w : List ℕ} {n : ℕ} {st : Scope} {k : ℕ} {r : Row} → r ≡ row-of w k → {t : List ℕ} {l : List Statement} → Ready t w n l st k → 4 ≤ word w (statement-cell k 0)
+    → Borne w n (r .label .0)
+borne-at {st = st} {k = k} e {l = l} b h =
+    borne-of {st = st} e b (kind-large (stmt l k .kind) (omega (arith, h, b .named .shape .kind k (b .inside))))
 
 -- a later bearer
 unless-by : (l : List Statement) (k : ℕ) (c : Kind) → stmt l k .kind ≡ c → labelled c ≡ true → length (check-label l (stmt l k)) ≢ 0 → given-at l k ≡ give.only (check-label l (stmt l k))
@@ -72,11 +94,11 @@ unless-by l k $e e h n = given-by l k e ∙ unless-some (check-label l (stmt l k
 unless-by l k $a e h n = given-by l k e ∙ unless-some (check-label l (stmt l k)) _ n
 unless-by l k $p e h n = given-by l k e ∙ unless-some (check-label l (stmt l k)) _ n
 
-pub later-bearer : {w out out′ : List ℕ} {n : ℕ} {st s : Scope} {k p : ℕ} {r : Row} → r ≡ row-of w k → s ≡ moved st p → 4 ≤ word w (statement-cell k 0)
-    → Owns w n (r .label .0) (r .at .0) own.Nothing → Label w out out′ n (st .diags) p (r .label .0) (r .at .0) → Gives w w out out′ n st s k
+pub later-bearer : {w q out out′ : List ℕ} {n : ℕ} {st s : Scope} {k p : ℕ} {r : Row} → r ≡ row-of w k → s ≡ moved st p → 4 ≤ word w (statement-cell k 0)
+    → Owns w n (r .label .0) (r .at .0) own.Nothing → Label w out out′ n (st .diags) p (r .label .0) (r .at .0) → GivesPart w w q out out′ n st s k
 later-bearer {w} {n = n} {st} {k = k} e es kw o x =
     record {
-      sim = λ {t} {l} b.
+      sim = λ {t} {l} b pq.
           let lab = kind-large (stmt l k .kind) (omega (arith, kw, b .named .shape .kind k (b .inside))) in
           let h = fails {st = st} e b lab o in
           rw es
@@ -138,11 +160,11 @@ module _ {w out out′ : List ℕ} {n : ℕ} {st : Scope} {k p : ℕ} {r : Row} 
   eap-few : {t : List ℕ} {l : List Statement} (b : Ready t w n l st k) → p ≤ st .diags + 604000000
   eap-few b = let g = walk-of b e in omega (arith, x .few, g .atoms .rows, g .room .small)
 
-  pub essential-rejected : {s : Scope} {a : Atom} → s ≡ moved st p → word w (statement-cell k 0) ≡ 5 → Owns w n (r .label .0) (r .at .0) (own.Own a) → p ≢ st .diags
-      → Gives w w out out′ n st s k
+  pub essential-rejected : {q : List ℕ} {s : Scope} {a : Atom} → s ≡ moved st p → word w (statement-cell k 0) ≡ 5 → Owns w n (r .label .0) (r .at .0) (own.Own a) → p ≢ st .diags
+      → GivesPart w w q out out′ n st s k
   essential-rejected es kw o ne =
       record {
-        sim = λ {t} {l} b.
+        sim = λ {t} {l} b pq.
             let ek = kind-e (stmt l k .kind) (kind-of b kw) in
             let lab : labelled (stmt l k .kind) ≡ true = ap labelled ek in
             let d = check-expression l (view-at l k) (stmt l k) in
@@ -152,12 +174,12 @@ module _ {w out out′ : List ℕ} {n : ℕ} {st : Scope} {k p : ℕ} {r : Row} 
             (rejected b {d = d} (kept-none n 12 12 6 7 w) (b .stands .marks) (eap-checked l k (owned {st = st} e b lab o) ek ∙ accept-some d _ [] h) h (eap-few b) g);
       }
 
-  pub essential-accepted : {u : List ℕ} {s : Scope} {a : Atom} → s ≡ with-essential st p → word w (statement-cell k 0) ≡ 5 → Owns w n (r .label .0) (r .at .0) (own.Own a)
-      → p ≡ st .diags → u ≡ set w (statement-cell (st .es) 10) k → Gives w u out out′ n st s k
+  pub essential-accepted : {u q : List ℕ} {s : Scope} {a : Atom} → s ≡ with-essential st p → word w (statement-cell k 0) ≡ 5 → Owns w n (r .label .0) (r .at .0) (own.Own a)
+      → p ≡ st .diags → u ≡ set w (statement-cell (st .es) 10) k → GivesPart w u q out out′ n st s k
   unfolding accepted
   essential-accepted {u} es kw o eq eu =
       record {
-        sim = λ {t} {l} b.
+        sim = λ {t} {l} b pq.
             let ek = kind-e (stmt l k .kind) (kind-of b kw) in
             let lab : labelled (stmt l k .kind) ≡ true = ap labelled ek in
             let d = check-expression l (view-at l k) (stmt l k) in
@@ -194,10 +216,10 @@ module _ {w out out′ : List ℕ} {n : ℕ} {st : Scope} {k p : ℕ} {r : Row} 
             });
       }
 
-  pub asserted : {s : Scope} {a : Atom} → s ≡ moved st p → 6 ≤ word w (statement-cell k 0) → Owns w n (r .label .0) (r .at .0) (own.Own a) → Gives w w out out′ n st s k
+  pub asserted : {q : List ℕ} {s : Scope} {a : Atom} → s ≡ moved st p → 6 ≤ word w (statement-cell k 0) → Owns w n (r .label .0) (r .at .0) (own.Own a) → GivesPart w w q out out′ n st s k
   asserted es kw o =
       record {
-        sim = λ {t} {l} b.
+        sim = λ {t} {l} b pq.
             let kd = stmt l k .kind in
             let h : 6 ≤ kind-number kd = omega (arith, kw, b .named .shape .kind k (b .inside)) in
             let kk = assert-kind kd h in

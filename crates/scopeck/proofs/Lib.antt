@@ -1,4 +1,5 @@
 pub mod Ready
+pub mod Owners
 pub mod Gives
 pub mod Unlabelled
 pub mod Labelled

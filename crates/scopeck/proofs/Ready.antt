@@ -17,7 +17,7 @@ use Rattle.token.specs.Words.{move}
 use Rattle.slots.specs.Slots.{Atomic, Apart}
 use Rattle.checks.specs.Tokens.{Can, HasFloat}
 use Rattle.checks.specs.Visible.{visible-from}
-use Rattle.checks.specs.Walks.{Walk, HasFloats, Here, WalkPart, HerePart}
+use Rattle.checks.specs.Walks.{Walk, HasFloats, LastTwo, Here, WalkPart, HerePart}
 use Rattle.checks.proofs.Comments.{math-part}
 use Rattle.scopeck.specs.declared.Scope.{Scope}
 use Rattle.scopeck.specs.declared.Row.{Row}
@@ -168,6 +168,13 @@ module _ {t w : List ℕ} {n : ℕ} {l : List Statement} {st : Scope} {k : ℕ} 
       part-count : length (visible-from q 0) ≡ length (stmt l k .math)
       part-count = sym (ap length part-math ∙ length-map (visible-from q 0) (move f))
 
+      -- as many as the row says
+      pub part-counted : length (visible-from q 0) ≡ r .count
+      part-counted = part-count ∙ sym (here-of .count)
+
+      pub walk-eap : Walk w n (st .diags) (r .first) (length (visible-from q 0)) × HasFloats w n (r .first) (length (visible-from q 0))
+      walk-eap = rw part-counted (walk-of, floats-of)
+
       pub here-part : HerePart t w q n l k (r .first) f (r .at .0)
       here-part =
           let h = here-of in
@@ -213,11 +220,6 @@ module _ {t w : List ℕ} {n : ℕ} {l : List Statement} {st : Scope} {k : ℕ} 
 
     -- ---- the two tokens of a `$f`
     module _ (kw : word w (statement-cell k 0) ≡ 4) where
-      pub two-rows : r .first + 2 ≤ n
-      two-rows =
-          let g = walk-of in
-          omega (arith, g .atoms .rows, here-of .count, b .facts .shaped k (b .inside) .two (kind-f (stmt l k .kind) (kind-of kw)))
-
       first-of : {c : ℕ} → c ≡ word w (math-cell n (r .first)) → Atomic l c (token (stmt l k) 0 .bytes)
       first-of ec =
           let z : r .first + 0 ≡ r .first = omega arith in
@@ -228,6 +230,16 @@ module _ {t w : List ℕ} {n : ℕ} {l : List Statement} {st : Scope} {k : ℕ} 
       second-of ea =
           let two = b .facts .shaped k (b .inside) .two (kind-f (stmt l k .kind) (kind-of kw)) in
           rw ea (here-of .atomic 1 (omega (arith, here-of .count, two)))
+
+      -- the last two of them
+      pub two-of : {q : List ℕ} {c a : ℕ} → q ≡ part-of t w k → LastTwo w n (r .first) (length (visible-from q 0)) c a
+          → (c ≡ word w (math-cell n (r .first))) × (a ≡ word w (math-cell n (r .first + 1)))
+      two-of {q} {c} {a} p h =
+          let two = b .facts .shaped k (b .inside) .two (kind-f (stmt l k .kind) (kind-of kw)) in
+          let m : length (visible-from q 0) ≡ 2 = part-counted p refl ∙ here-of .count ∙ two in
+          let g : LastTwo w n (r .first) 2 c a = rw m at h in
+          let z : r .first + 0 ≡ r .first = omega arith in
+          (g .typecode (omega arith) ∙ ap (λ (j : ℕ). word w (math-cell n j)) z, g .variable (omega arith))
 
       pub can-float : {c a : ℕ} → c ≡ word w (math-cell n (r .first)) → a ≡ word w (math-cell n (r .first + 1)) → Can w n (st .diags) c × Can w n (st .diags) a × HasFloat w n a
       can-float ec ea = (

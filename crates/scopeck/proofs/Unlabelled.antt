@@ -20,7 +20,7 @@ use Rattle.facts.specs.States.{state-at, view-at, given-at}
 use Rattle.facts.proofs.Sense.{kind-none}
 use Rattle.history.specs.Accepted.{no-diags, accepted, is-essential, is-disjoint}
 use Rattle.history.proofs.Active.{rows-next}
-use Rattle.stream.specs.Wrote.{Wrote}
+use Rattle.stream.specs.Wrote.{Wrote, WroteOrKept}
 use Rattle.stream.specs.Diagnostic.{diagnostic}
 use Rattle.stream.proofs.Records.{wrote-diag}
 use Rattle.slots.specs.Marks.{Marks}
@@ -32,7 +32,7 @@ use Rattle.checks.specs.Walks.{WalkOuter, WalkNested, CheckedDv}
 use Rattle.checks.proofs.Ones.{same-told}
 use Rattle.scopeck.specs.declared.Scope.{Scope}
 use Rattle.scopeck.specs.declared.Row.{Row}
-use Rattle.scopeck.specs.Scope.{row-of, part-of, moved, with-disjoint, Ready, Given, Gives, GivesPart}
+use Rattle.scopeck.specs.Scope.{row-of, part-of, moved, with-disjoint, Ready, Given, GivesPart}
 use Rattle.scopeck.proofs.Ready.{apart-of, kind-c, kind-v, kind-d, kind-of, row-room, here-of, walk-of, here-part, walk-part}
 use Rattle.scopeck.proofs.Gives.{given-by, accept-some, told-some, told-nothing, nested-next, hyps-next, atoms-fit, entry-room, ess-still, dis-still, quiet, rejected}
 
@@ -85,7 +85,7 @@ module _ {w q out out′ : List ℕ} {n : ℕ} {st s : Scope} {k p f en : ℕ} {
       }
 
   -- ---- a nested `$c`
-  pub constant-nested : word w (statement-cell k 0) ≡ 1 → en ≢ none-end → (p ≡ st .diags + 18) × Wrote out out′ (st .diags) p (diag-record (diagnostic 13 (r .at .0) 0 0)) → GivesPart w w q out out′ n st s k
+  pub constant-nested : word w (statement-cell k 0) ≡ 1 → en ≢ none-end → (p ≡ st .diags + 18) × WroteOrKept out out′ (st .diags) p (diag-record (diagnostic 13 (r .at .0) 0 0)) → GivesPart w w q out out′ n st s k
   unfolding give.give-c
   constant-nested kw ne x =
       record {
@@ -95,7 +95,7 @@ module _ {w q out out′ : List ℕ} {n : ℕ} {st s : Scope} {k p f en : ℕ} {
             let eg : given-at l k ≡ give.only (diag 13 (stmt l k .at) 0 0) = given-by l k ek ∙ rw o in
             rw es
             (rejected b {d = diag 13 (stmt l k .at) 0 0} (kept-none n 12 12 6 7 w) (b .stands .marks) eg (λ i. omega (arith, i)) (omega (arith, x .0))
-            (same-told (wrote-diag 13 (r .at .0) 0 0 (x .1)) (ap (λ (y : ℕ). diag 13 y 0 0) (sym (here-of b e .at)))));
+            (same-told (wrote-diag 13 (r .at .0) 0 0 (x .1 .wrote)) (ap (λ (y : ℕ). diag 13 y 0 0) (sym (here-of b e .at)))));
       }
 
 -- ---- a nested `$v`
@@ -164,10 +164,10 @@ module _ {w v out out′ : List ℕ} {n : ℕ} {st : Scope} {k p : ℕ} {r : Row
   dv-few : {t : List ℕ} {l : List Statement} (b : Ready t w n l st k) → p ≤ st .diags + 604000000
   dv-few b = let g = walk-of b e in omega (arith, x .few, g .atoms .rows, g .room .small)
 
-  pub dv-rejected : {s : Scope} → s ≡ moved st p → p ≢ st .diags → Gives w v out out′ n st s k
+  pub dv-rejected : {q : List ℕ} {s : Scope} → s ≡ moved st p → p ≢ st .diags → GivesPart w v q out out′ n st s k
   dv-rejected es ne =
       record {
-        sim = λ {t} {l} b.
+        sim = λ {t} {l} b pq.
             let d = check-disjoint l (view-at l k) (stmt l k) in
             let g = dv-told b in
             let h = told-some d (g .1) ne in
@@ -175,11 +175,11 @@ module _ {w v out out′ : List ℕ} {n : ℕ} {st : Scope} {k p : ℕ} {r : Row
             (rejected b {d = d} (x .kept) (g .0) (dv-given l k (kind-d (stmt l k .kind) (kind-of b kw)) ∙ accept-some d _ [] h) h (dv-few b) (g .1));
       }
 
-  pub dv-accepted : {u : List ℕ} {s : Scope} → s ≡ with-disjoint st p → p ≡ st .diags → u ≡ set v (statement-cell (st .ds) 11) k → Gives w u out out′ n st s k
+  pub dv-accepted : {u q : List ℕ} {s : Scope} → s ≡ with-disjoint st p → p ≡ st .diags → u ≡ set v (statement-cell (st .ds) 11) k → GivesPart w u q out out′ n st s k
   unfolding accepted
   dv-accepted {u} es eq eu =
       record {
-        sim = λ {t} {l} b.
+        sim = λ {t} {l} b pq.
             let ek = kind-d (stmt l k .kind) (kind-of b kw) in
             let d = check-disjoint l (view-at l k) (stmt l k) in
             let g = dv-told b in

@@ -33,7 +33,7 @@ use Rattle.slots.proofs.Marks.{marks-kept}
 use Rattle.slots.proofs.Stacks.{pop-le, stack-pop, stack-kept, stack-none}
 use Rattle.checks.proofs.Found.{told-length}
 use Rattle.scopeck.specs.declared.Scope.{Scope}
-use Rattle.scopeck.specs.Scope.{part-of, Stands, Ready, Given, Gives, SomeReady, SomePart, GivesPart}
+use Rattle.scopeck.specs.Scope.{part-of, Stands, Ready, Given, SomePart, GivesPart}
 use Rattle.scopeck.specs.Fold.{SomeText, GivesText, accept-word, Marked, Before, SomeBefore, After, Steps, Forgotten, Blank, SomeBlank, Whole, SomeWhole, ChecksBlank, ChecksAll}
 
 -- ---- a statement of any kind
@@ -44,14 +44,8 @@ part-is t w k p q = rw (p, q)
 pub some-part : {t w : List ℕ} {n : ℕ} {st : Scope} {k : ℕ} {q : List ℕ} → SomeText t w n st k → q ≡ part-of t w k → SomePart w q n st k
 some-part {t} x e = record { text = t; of = x .of; holds = x .holds; part = e }
 
-pub some-ready : {t w : List ℕ} {n : ℕ} {st : Scope} {k : ℕ} → SomeText t w n st k → SomeReady w n st k
-some-ready {t} x = record { text = t; of = x .of; holds = x .holds }
-
 pub text-part : {t w v q out out′ : List ℕ} {n : ℕ} {st s : Scope} {k : ℕ} → q ≡ part-of t w k → GivesPart w v q out out′ n st s k → GivesText t w v out out′ n st s k
 text-part e x = record { sim = λ {l} b. x .sim b e }
-
-pub text-all : {t w v out out′ : List ℕ} {n : ℕ} {st s : Scope} {k : ℕ} → Gives w v out out′ n st s k → GivesText t w v out out′ n st s k
-text-all x = record { sim = λ {l} b. x .sim b }
 
 some-kind : (k : Kind) → 1 ≤ kind-number k
 some-kind $c = omega arith
@@ -62,7 +56,7 @@ some-kind $e = omega arith
 some-kind $a = omega arith
 some-kind $p = omega arith
 
-pub kind-some : {t w : List ℕ} {n : ℕ} {st : Scope} {k : ℕ} → SomeText t w n st k → 1 ≤ word w (statement-cell k 0)
+pub kind-some : {w q : List ℕ} {n : ℕ} {st : Scope} {k : ℕ} → SomePart w q n st k → 1 ≤ word w (statement-cell k 0)
 kind-some {k = k} x =
     let b = x .holds in
     omega (arith, some-kind (stmt (x .of) k .kind), b .named .shape .kind k (b .inside))

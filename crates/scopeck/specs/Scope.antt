@@ -2,10 +2,12 @@
 -- `l` is the statements of the text t, `k` the row of the statement in hand, `st` the state of the fold.
 use mathlib.Core.Path.{_≡_}
 use mathlib.Core.List.{List, []}
+use mathlib.Core.Option.{some}
 use Prim.Native.Nat.{ℕ, _+_, _-_, _*_, _<_, _≤_}
 use lib.Dec.{eqb}
 use lib.ListN.{length, take, drop}
 use Rattle.paper.specs.Base.{choose, gather}
+use Rattle.paper.specs.Tokens.{Token}
 use Rattle.paper.specs.Statements.{Statement}
 use Rattle.paper.specs.Names.{owner}
 use Rattle.paper.specs.Records.{diag-record}
@@ -16,9 +18,6 @@ use Rattle.facts.specs.States.{state-at, given-at}
 use Rattle.history.specs.Accepted.{is-essential, is-disjoint, rows-of}
 use Rattle.nameck.specs.Atoms.{atoms, name-of}
 use Rattle.nameck.specs.Named.{Named}
-use Rattle.nameck.specs.Lookups.{owner-answer}
-use Rattle.nameck.specs.declared.lookup.Owner as label
-use Rattle.nameck.specs.declared.lookup.Owner.the-variants as label-case
 use Rattle.stream.specs.Wrote.{Wrote}
 use Rattle.slots.specs.Kept.{Room, Kept}
 use Rattle.slots.specs.Slots.{Nests, Floats}
@@ -44,15 +43,23 @@ unfoldable pub part-of : List ℕ → List ℕ → ℕ → List ℕ
 part-of t w k =
     take (word w (statement-cell k 4) - word w (statement-cell k 3)) (drop (word w (statement-cell k 3)) t)
 
--- whether a statement at s owns its label a, by the label's owner
-abbrev pub own-by : label.Owner → ℕ → ℕ → Owner
-own-by (label-case.At o) s a = choose (eqb (o .0) s) (own.Own (record { 0 = a })) own.Nothing
-own-by label-case.Nobody s a = own.Own (record { 0 = a })
+-- some statement bears the label a
+pub record Borne (w : List ℕ) (n a : ℕ) : Type 0 where
+  pub text : List ℕ
+  pub of : List Statement
+  pub named : Named text w n of
+  pub below : a < length (atoms of)
+  pub first : Token
+  pub owned : owner of (name-of of a) ≡ some first
+
+-- whether a statement at s owns its label a, whose first bearer is at o
+abbrev pub own-by : ℕ → ℕ → ℕ → Owner
+own-by o s a = choose (eqb o s) (own.Own (record { 0 = a })) own.Nothing
 
 pub record Owns (w : List ℕ) (n a s : ℕ) (r : Owner) : Type 0 where
   pub is :
-      {t : List ℕ} {l : List Statement} → Named t w n l → a < length (atoms l)
-      → r ≡ own-by (owner-answer (owner l (name-of l a))) s a
+      {t : List ℕ} {l : List Statement} (x : Token) → Named t w n l → a < length (atoms l)
+      → owner l (name-of l a) ≡ some x → r ≡ own-by (x .at) s a
 
 -- the state with another place in the diagnostics, and with one more `$e` or `$d`
 abbrev pub moved : Scope → ℕ → Scope
@@ -89,16 +96,7 @@ pub record Given (w v out out′ : List ℕ) (n : ℕ) (l : List Statement) (st 
   pub stands : Stands v n l st′ (k + 1) (stmt l k .at)
   pub told : Wrote out out′ (st .diags) (st′ .diags) (gather diag-record (given-at l k .diags))
 
--- ---- asked of some text, promised for all
-pub record SomeReady (w : List ℕ) (n : ℕ) (st : Scope) (k : ℕ) : Type 0 where
-  pub text : List ℕ
-  pub of : List Statement
-  pub holds : Ready text w n of st k
-
-pub record Gives (w v out out′ : List ℕ) (n : ℕ) (st st′ : Scope) (k : ℕ) : Type 0 where
-  pub sim : {t : List ℕ} {l : List Statement} → Ready t w n l st k → Given w v out out′ n l st st′ k
-
--- for the part q of the text
+-- ---- asked of some text of which q is the statement's part, promised for all
 pub record SomePart (w q : List ℕ) (n : ℕ) (st : Scope) (k : ℕ) : Type 0 where
   pub text : List ℕ
   pub of : List Statement

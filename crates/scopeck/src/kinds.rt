@@ -1,5 +1,5 @@
 // The check of a statement of each kind: its diagnostics, and what it records if it got none.
-// The math string of a `$c` or `$v` comes in as a part of the text.
+// The math string of the statement comes in as a part of the text.
 use crate::Owner;
 use crate::Scope;
 use crate::rows::check_label_dup;
@@ -9,12 +9,11 @@ use checks::tokens::check_float;
 use checks::tokens::check_label;
 use checks::walks::check_dv;
 use checks::walks::check_eap;
+use checks::walks::float_tokens;
 use checks::walks::walk_nested;
 use checks::walks::walk_outer;
-use paper::Atom;
+use paper::StatementRow;
 use paper::TokenIndex;
-use slots::StatementRow;
-use slots::cells::of_math;
 use slots::cells::of_statement;
 use slots::look::record_float;
 use slots::stack::push;
@@ -22,7 +21,7 @@ use stream::record::put_diag;
 ghost use mathlib.Core.Path.{_≡_};
 ghost use Prim.Native.Nat.{_≤_};
 ghost use Rattle.area.specs.Cells.{statement-cell, word};
-ghost use Rattle.scopeck.specs.Scope.{SomeReady, Gives, SomePart, GivesPart};
+ghost use Rattle.scopeck.specs.Scope.{SomePart, GivesPart};
 
 /// `$c`, whose math string is `part`: a nested one declares nothing.
 pub fn scope_check_constant(
@@ -70,13 +69,20 @@ pub fn scope_check_variable(
     move_to(st, p)
 }
 
-/// `$d`: put on its stack if it is accepted.
-pub fn scope_check_dv(work: &mut [u32], n: usize, diags: &mut [u8], st: Scope, row: usize) -> Scope
-    requires { ⌜ SomeReady (now work) n st row × (word (now work) (statement-cell row 0) ≡ 3) ⌝ }
-    ensures { λ r. ⌜ Gives (now (work .entry)) (now (work .exit)) (now (diags .entry)) (now (diags .exit)) n st r row ⌝ }
+/// `$d`, whose math string is `part`: put on its stack if it is accepted.
+pub fn scope_check_dv(
+    part: &[u8],
+    work: &mut [u32],
+    n: usize,
+    diags: &mut [u8],
+    st: Scope,
+    row: usize,
+) -> Scope
+    requires { ⌜ SomePart (now work) (now part) n st row × (word (now work) (statement-cell row 0) ≡ 3) ⌝ }
+    ensures { λ r. ⌜ GivesPart (now (work .entry)) (now (work .exit)) (now (part .entry)) (now (diags .entry)) (now (diags .exit)) n st r row ⌝ }
 {
     let x = read_row(work, n, row);
-    let p = check_dv(work, n, diags, st.diags, x.first, x.count, x.at);
+    let p = check_dv(part, work, n, diags, st.diags, x.first, x.count, x.at);
     if p != st.diags {
         return move_to(st, p);
     }
@@ -88,49 +94,50 @@ pub fn scope_check_dv(work: &mut [u32], n: usize, diags: &mut [u8], st: Scope, r
     }
 }
 
-/// `$f`: its variable's slot holds its row if it is accepted.
+/// `$f`, whose math string is `part`: its variable's slot holds its row if it is accepted.
 pub fn scope_check_float(
+    part: &[u8],
     work: &mut [u32],
     n: usize,
     diags: &mut [u8],
     st: Scope,
     row: usize,
 ) -> Scope
-    requires { ⌜ SomeReady (now work) n st row × (word (now work) (statement-cell row 0) ≡ 4) ⌝ }
-    ensures { λ r. ⌜ Gives (now (work .entry)) (now (work .exit)) (now (diags .entry)) (now (diags .exit)) n st r row ⌝ }
+    requires { ⌜ SomePart (now work) (now part) n st row × (word (now work) (statement-cell row 0) ≡ 4) ⌝ }
+    ensures { λ r. ⌜ GivesPart (now (work .entry)) (now (work .exit)) (now (part .entry)) (now (diags .entry)) (now (diags .exit)) n st r row ⌝ }
 {
     let x = read_row(work, n, row);
     let Owner::Own(_) = check_label_dup(work, n, x.label, x.at) else {
         let p = check_label(work, n, diags, st.diags, x.label, x.at);
         return move_to(st, p);
     };
-    let typecode = Atom(of_math(work, n, x.first));
-    let variable = Atom(of_math(work, n, x.first + 1));
-    let p = check_float(work, n, diags, st.diags, typecode, variable, x.at);
+    let two = float_tokens(part, work, n, x.first);
+    let p = check_float(work, n, diags, st.diags, two.typecode, two.variable, x.at);
     if st.diags != p {
         return move_to(st, p);
     }
-    record_float(work, n, variable, StatementRow(row as u32));
+    record_float(work, n, two.variable, StatementRow(row as u32));
     move_to(st, p)
 }
 
-/// `$e`: put on its stack if it is accepted.
+/// `$e`, whose math string is `part`: put on its stack if it is accepted.
 pub fn scope_check_essential(
+    part: &[u8],
     work: &mut [u32],
     n: usize,
     diags: &mut [u8],
     st: Scope,
     row: usize,
 ) -> Scope
-    requires { ⌜ SomeReady (now work) n st row × (word (now work) (statement-cell row 0) ≡ 5) ⌝ }
-    ensures { λ r. ⌜ Gives (now (work .entry)) (now (work .exit)) (now (diags .entry)) (now (diags .exit)) n st r row ⌝ }
+    requires { ⌜ SomePart (now work) (now part) n st row × (word (now work) (statement-cell row 0) ≡ 5) ⌝ }
+    ensures { λ r. ⌜ GivesPart (now (work .entry)) (now (work .exit)) (now (part .entry)) (now (diags .entry)) (now (diags .exit)) n st r row ⌝ }
 {
     let x = read_row(work, n, row);
     let Owner::Own(_) = check_label_dup(work, n, x.label, x.at) else {
         let p = check_label(work, n, diags, st.diags, x.label, x.at);
         return move_to(st, p);
     };
-    let p = check_eap(work, n, diags, st.diags, x.first, x.count, x.at);
+    let p = check_eap(part, work, n, diags, st.diags, x.first, x.at);
     if p != st.diags {
         return move_to(st, p);
     }
@@ -142,16 +149,23 @@ pub fn scope_check_essential(
     }
 }
 
-/// `$a` or `$p`.
-pub fn scope_check_assert(work: &[u32], n: usize, diags: &mut [u8], st: Scope, row: usize) -> Scope
-    requires { ⌜ SomeReady (now work) n st row × (6 ≤ word (now work) (statement-cell row 0)) ⌝ }
-    ensures { λ r. ⌜ Gives (now (work .entry)) (now (work .entry)) (now (diags .entry)) (now (diags .exit)) n st r row ⌝ }
+/// `$a` or `$p`, whose math string is `part`.
+pub fn scope_check_assert(
+    part: &[u8],
+    work: &[u32],
+    n: usize,
+    diags: &mut [u8],
+    st: Scope,
+    row: usize,
+) -> Scope
+    requires { ⌜ SomePart (now work) (now part) n st row × (6 ≤ word (now work) (statement-cell row 0)) ⌝ }
+    ensures { λ r. ⌜ GivesPart (now (work .entry)) (now (work .entry)) (now (part .entry)) (now (diags .entry)) (now (diags .exit)) n st r row ⌝ }
 {
     let x = read_row(work, n, row);
     let Owner::Own(_) = check_label_dup(work, n, x.label, x.at) else {
         let p = check_label(work, n, diags, st.diags, x.label, x.at);
         return move_to(st, p);
     };
-    let p = check_eap(work, n, diags, st.diags, x.first, x.count, x.at);
+    let p = check_eap(part, work, n, diags, st.diags, x.first, x.at);
     move_to(st, p)
 }

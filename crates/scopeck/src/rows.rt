@@ -10,7 +10,7 @@ use slots::cells::of_statement;
 ghost use mathlib.Core.Path.{_≡_};
 ghost use Prim.Native.Nat.{_+_, _*_, _<_, _≤_};
 ghost use Rattle.slots.specs.Kept.{Room};
-ghost use Rattle.scopeck.specs.Scope.{row-of, Owns, moved};
+ghost use Rattle.scopeck.specs.Scope.{row-of, Borne, Owns, moved};
 
 /// The words of a statement's row.
 pub fn read_row(work: &[u32], n: usize, row: usize) -> Row
@@ -29,13 +29,20 @@ pub fn read_row(work: &[u32], n: usize, row: usize) -> Row
     }
 }
 
-/// The label of the statement at `s`, if that is the first to bear it.
+/// A case that does not arise.
+pub fn unreachable() -> Owner
+    requires { ⌜ ⊥ ⌝ }
+{
+    Owner::Nothing
+}
+
+/// The label of the statement at `s`, which bears it, if that is the first to do so.
 pub fn check_label_dup(work: &[u32], n: usize, label: Atom, s: StatementOffset) -> Owner
-    requires { ⌜ Room (now work) n × (label .0 < n) ⌝ }
+    requires { ⌜ Room (now work) n × (label .0 < n) × Borne (now work) n (label .0) ⌝ }
     ensures { λ r. ⌜ Owns (now (work .entry)) n (label .0) (s .0) r ⌝ }
 {
     let lookup::Owner::At(o) = lookup::lookup_label(work, n, label) else {
-        return Owner::Own(label);
+        return unreachable();
     };
     if o.0 == s.0 {
         return Owner::Own(label);

@@ -15,32 +15,43 @@ use slots::stack::still_active;
 ghost use mathlib.Core.Path.{_≡_};
 ghost use Prim.Native.Nat.{_+_, _*_, _<_, _≤_};
 ghost use lib.ListN.{set};
-ghost use Rattle.area.specs.Cells.{statement-cell, word};
+ghost use Rattle.area.specs.Cells.{statement-cell};
 ghost use Rattle.slots.specs.Kept.{Room};
+ghost use Rattle.scopeck.specs.Scope.{SomePart, GivesPart};
 ghost use Rattle.scopeck.specs.Fold.{SomeText, GivesText, accept-word, SomeBefore, Steps, Forgotten, SomeBlank, ChecksBlank, SomeWhole, ChecksAll};
 
-/// A `$c` or `$v`, whose math string is a part of the text.
-pub fn check_declaration(
-    text: &[u8],
+/// A statement by its kind, whose math string is `part`.
+pub fn check_part(
+    part: &[u8],
     work: &mut [u32],
     n: usize,
     diags: &mut [u8],
     st: Scope,
     row: usize,
 ) -> Scope
-    requires { ⌜ SomeText (now text) (now work) n st row × (word (now work) (statement-cell row 0) < 3) ⌝ }
-    ensures { λ r. ⌜ GivesText (now (text .entry)) (now (work .entry)) (now (work .exit)) (now (diags .entry)) (now (diags .exit)) n st r row ⌝ }
+    requires { ⌜ SomePart (now work) (now part) n st row ⌝ }
+    ensures { λ r. ⌜ GivesPart (now (work .entry)) (now (work .exit)) (now (part .entry)) (now (diags .entry)) (now (diags .exit)) n st r row ⌝ }
 {
     let kind = of_statement(work, n, row, area::KIND);
-    let from = of_statement(work, n, row, area::FROM) as usize;
-    let to = of_statement(work, n, row, area::TO) as usize;
     if kind == 1 {
-        return scope_check_constant(&text[from..to], work, n, diags, st, row);
+        return scope_check_constant(part, work, n, diags, st, row);
     }
-    scope_check_variable(&text[from..to], work, n, diags, st, row)
+    if kind == 2 {
+        return scope_check_variable(part, work, n, diags, st, row);
+    }
+    if kind == 3 {
+        return scope_check_dv(part, work, n, diags, st, row);
+    }
+    if kind == 4 {
+        return scope_check_float(part, work, n, diags, st, row);
+    }
+    if kind == 5 {
+        return scope_check_essential(part, work, n, diags, st, row);
+    }
+    scope_check_assert(part, work, n, diags, st, row)
 }
 
-/// A statement by its kind.
+/// A statement of the text: its math string is a part that starts in the middle.
 pub fn check_kind(
     text: &[u8],
     work: &mut [u32],
@@ -52,20 +63,9 @@ pub fn check_kind(
     requires { ⌜ SomeText (now text) (now work) n st row ⌝ }
     ensures { λ r. ⌜ GivesText (now (text .entry)) (now (work .entry)) (now (work .exit)) (now (diags .entry)) (now (diags .exit)) n st r row ⌝ }
 {
-    let kind = of_statement(work, n, row, area::KIND);
-    if kind < 3 {
-        return check_declaration(text, work, n, diags, st, row);
-    }
-    if kind == 3 {
-        return scope_check_dv(work, n, diags, st, row);
-    }
-    if kind == 4 {
-        return scope_check_float(work, n, diags, st, row);
-    }
-    if kind == 5 {
-        return scope_check_essential(work, n, diags, st, row);
-    }
-    scope_check_assert(work, n, diags, st, row)
+    let from = of_statement(work, n, row, area::FROM) as usize;
+    let to = of_statement(work, n, row, area::TO) as usize;
+    check_part(&text[from..to], work, n, diags, st, row)
 }
 
 /// Marks a statement: accepted if the place in the diagnostics did not move.

@@ -3,3 +3,4 @@ pub mod Slots
 pub mod Words
 pub mod Marks
 pub mod Stacks
+pub mod Lowest

@@ -21,7 +21,7 @@ use Rattle.area.proofs.Laws.{word-same, word-other}
 use Rattle.reader.specs.Rows.{stmt}
 use Rattle.nameck.specs.Atoms.{atoms, name-of}
 use Rattle.slots.specs.declared.NestedSlot.the-variants as nested
-use Rattle.slots.specs.declared.StatementRow.{StatementRow}
+use Rattle.paper.specs.declared.StatementRow.{StatementRow}
 use Rattle.slots.specs.declared.FloatSlot.{FloatSlot}
 use Rattle.slots.specs.declared.FloatSlot.the-variants as floating
 use Rattle.slots.specs.Kept.{Room, Kept}

@@ -1,16 +1,15 @@
 // Words against state: one slot for each name, the stacks of active `$e` and `$d`, and the marks of a `$d`.
 // Functions promise equations over the words, and laws say what these stand for; `check_math_symbol` promises the definition.
 use paper::Atom;
+use paper::StatementRow;
 use paper::TokenIndex;
 use paper::TokenOffset;
 
 pub mod cells;
+pub mod global;
 pub mod look;
 pub mod mark;
 pub mod stack;
-
-/// The row of a statement in the work area.
-pub struct StatementRow(pub u32);
 
 /// The nested `$v` token of a name, or nothing.
 pub enum NestedSlot {

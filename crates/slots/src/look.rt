@@ -3,7 +3,6 @@
 use crate::CheckedToken;
 use crate::FloatSlot;
 use crate::NestedSlot;
-use crate::StatementRow;
 use crate::cells::of_statement;
 use crate::cells::of_symbol;
 use crate::cells::put_symbol;
@@ -11,6 +10,7 @@ use nameck::lookup::Global;
 use nameck::lookup::lookup_symbol;
 use paper::Atom;
 use paper::StatementOffset;
+use paper::StatementRow;
 use paper::TokenOffset;
 ghost use mathlib.Core.Path.{_≡_};
 ghost use Prim.Native.Nat.{_+_, _*_, _<_, _≤_};

@@ -8,10 +8,10 @@ ghost use Prim.Native.Nat.{_+_, _-_, _<_, _^_};
 ghost use lib.ListN.{length, getD};
 ghost use Rattle.paper.specs.Frames.{stub};
 ghost use Rattle.paper.specs.Records.{diag-record, frame-record};
-ghost use Rattle.stream.specs.Wrote.{Wrote};
+ghost use Rattle.stream.specs.Wrote.{Wrote, WroteOrKept};
 ghost use Rattle.stream.specs.Diagnostic.{diagnostic};
 
-/// A diagnostic: length 14, kind, statement, token index, other.
+/// A diagnostic: length 14, kind, statement, token index, other. A buffer that is too short is left as it was.
 pub fn put_diag(
     out: &mut [u8],
     at: usize,
@@ -21,7 +21,7 @@ pub fn put_diag(
     other: u32,
 ) -> usize
     requires { ⌜ at + 18 < 2 ^ 64 ⌝ }
-    ensures { λ r. ⌜ (r ≡ at + 18) × Wrote (now (out .entry)) (now (out .exit)) at r (diag-record (diagnostic kind (statement .0) (index .0) other)) ⌝ }
+    ensures { λ r. ⌜ (r ≡ at + 18) × WroteOrKept (now (out .entry)) (now (out .exit)) at r (diag-record (diagnostic kind (statement .0) (index .0) other)) ⌝ }
 {
     let end = at + 18;
     if out.len() < end {

@@ -13,7 +13,7 @@ pub struct DiagState {
     pub count: usize,
 }
 
-/// Writes a diagnostic after the used bytes, and counts it.
+/// Writes a diagnostic after the used bytes, and counts it. A buffer that is too short is left as it was.
 pub fn push_diagnostic(
     state: &mut DiagState,
     out: &mut [u8],

@@ -47,6 +47,10 @@ pub tokens-few : (t : List ℕ) (i : ℕ) → length (tokens-from t i) ≤ lengt
 unfolding tokens-from
 tokens-few t i = omega (arith, starts-toks (drop i t) i .0, starts-le (drop i t) 1, length-drop i t)
 
+pub few-tokens : (t : List ℕ) → length (tokens t) ≤ length t
+unfolding tokens tokens-from
+few-tokens t = omega (arith, tokens-few t 0)
+
 pub starts-tokens : (t : List ℕ) → starts t 1 ≡ length (tokens t)
 unfolding tokens
 starts-tokens t = sym (starts-toks t 0 .0)

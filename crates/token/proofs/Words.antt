@@ -8,7 +8,7 @@ use native.Mathlib.Nat.{add-zero, add-suc, suc-add, not-suc-le-zero}
 use native.Mathlib.Numerals.{add-one}
 use native.Mathlib.Omega.{arith}
 use lib.ListN.{length, getD, take, drop, drop-of-length-le, length-drop}
-use lib.Seq.{drop-cons, drop-drop, getD-drop}
+use lib.Seq.{drop-cons, drop-drop, drop-length, getD-drop}
 use Rattle.paper.specs.Bytes.{white}
 use Rattle.paper.specs.Tokens.{Token, put, run, toks}
 use Rattle.paper.proofs.Tests.{split}
@@ -119,6 +119,11 @@ module _ (t : List ℕ) (i : ℕ) where
   pub from-gap : i ≤ past-gap t i
   unfolding past-gap
   from-gap = omega arith
+
+-- no token from the end on
+pub tokens-end : (t : List ℕ) → tokens-from t (length t) ≡ []
+unfolding tokens-from toks run
+tokens-end t = rw drop-length
 
 abbrev pub stop-of : List ℕ → ℕ → ℕ
 stop-of t s = s + length (word (drop s t))

@@ -8,31 +8,34 @@ ghost use Rattle.paper.specs.Base.{sameb};
 ghost use Rattle.token.specs.Class.{classes, lower};
 ghost use Rattle.token.specs.Words.{past-gap, span-from, tokens-from, next-of};
 
-pub const KEY_C: [u8; 2] = [36, 99];
+/// The byte that every keyword starts with.
+pub const DOLLAR: u8 = b'$';
 
-pub const KEY_V: [u8; 2] = [36, 118];
+pub const KEY_C: [u8; 2] = [b'$', b'c'];
 
-pub const KEY_D: [u8; 2] = [36, 100];
+pub const KEY_V: [u8; 2] = [b'$', b'v'];
 
-pub const KEY_F: [u8; 2] = [36, 102];
+pub const KEY_D: [u8; 2] = [b'$', b'd'];
 
-pub const KEY_E: [u8; 2] = [36, 101];
+pub const KEY_F: [u8; 2] = [b'$', b'f'];
 
-pub const KEY_A: [u8; 2] = [36, 97];
+pub const KEY_E: [u8; 2] = [b'$', b'e'];
 
-pub const KEY_P: [u8; 2] = [36, 112];
+pub const KEY_A: [u8; 2] = [b'$', b'a'];
 
-pub const KEY_STOP: [u8; 2] = [36, 46];
+pub const KEY_P: [u8; 2] = [b'$', b'p'];
 
-pub const KEY_PROOF: [u8; 2] = [36, 61];
+pub const KEY_STOP: [u8; 2] = [b'$', b'.'];
 
-pub const KEY_OPEN: [u8; 2] = [36, 123];
+pub const KEY_PROOF: [u8; 2] = [b'$', b'='];
 
-pub const KEY_CLOSE: [u8; 2] = [36, 125];
+pub const KEY_OPEN: [u8; 2] = [b'$', b'{'];
 
-pub const KEY_COMMENT: [u8; 2] = [36, 40];
+pub const KEY_CLOSE: [u8; 2] = [b'$', b'}'];
 
-pub const KEY_COMMENT_END: [u8; 2] = [36, 41];
+pub const KEY_COMMENT: [u8; 2] = [b'$', b'('];
+
+pub const KEY_COMMENT_END: [u8; 2] = [b'$', b')'];
 
 /// Whether the bytes of a token are this keyword.
 pub fn is_key(s: &[u8], key: [u8; 2]) -> bool
@@ -117,18 +120,17 @@ impl Cursor {
         }
     }
 
-    /// The first token from here on.
-    pub fn next(self, table: &[u8; 256], text: &[u8]) -> Next
+    /// The first token from here on, and the cursor after it.
+    pub fn next(mut self, table: &[u8; 256], text: &[u8]) -> Next
         requires { ⌜ now table ≡ classes ⌝ }
         ensures { λ r. ⌜ r ≡ next-of (tokens-from (now (text .entry)) (self .at)) ⌝ }
     {
-        let c = self.skip_white(table, text);
-        let at = c.at;
-        if text.len() <= at {
+        self = self.skip_white(table, text);
+        if text.len() <= self.at {
             return Next::Done;
         }
-        let x = c.to_white(table, text);
-        let stop = x.stop;
-        Next::Token(x, Cursor { at: stop })
+        let x = self.to_white(table, text);
+        self.at = x.stop;
+        Next::Token(x, self)
     }
 }

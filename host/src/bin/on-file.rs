@@ -1,12 +1,15 @@
 //! The operation on a file.
 //!
 //! `on-file TEXT FRAMES DIAGNOSTICS` writes both streams to files and prints number, place and used lengths.
-//! `on-file --time TEXT ROUNDS` prints, in ms, the writer's best time over buffers that were touched before, its best over
-//! buffers that were not, the measure's best time, and the best time that clearing the work area alone takes.
+//! `on-file --time TEXT ROUNDS` prints, in ms of processor time, the writer's best over buffers that were touched before, its best over
+//! buffers that were not, the measure's best, and the best time that clearing the work area alone takes.
 
+#[path = "../../../bench/cpu.rs"]
+mod cpu;
+
+use cpu::Instant;
 use janorembe::{measure, streams, words, write};
 use std::hint::black_box;
-use std::time::Instant;
 
 fn read(path: &str) -> Vec<u8> {
     std::fs::read(path).unwrap_or_else(|e| fail(&format!("{path}: {e}")))

@@ -1,4 +1,5 @@
 use Rattle.fold.proofs.Starts.{read-held}
+use Rattle.naming_bench.proofs.Reading.{names-unread, names-read}
 use borrow.Author.Needs.{needs}
 use Rattle.naming_bench.proofs.naming_bench_name.Statement.{statement}
 use Rattle.naming_bench.proofs.naming_bench_name.Tie as tie
@@ -23,13 +24,13 @@ same-length : tie.Need-same-length
 same-length c = search needs
 
 returns : tie.Need-returns
-returns c = search needs
+returns c = names-unread _ _ (c .before .before .before .before .before .before .before .before .args .work .now) (c .before .before .before .before .read .ensures) (c .enum-told .given .1)
 
 same-length-2 : tie.Need-same-length-2
 same-length-2 c = search needs
 
 returns-2 : tie.Need-returns-2
-returns-2 c = search needs
+returns-2 c = names-read _ _ (c .before .before .before .before .before .before .before .before .before .before .before .before .before .args .work .now) (c .before .before .before .before .before .before .before .before .before .read .ensures) (c .before .before .before .before .before .rows .given .1) (c .before .before .start .ensures)
 
 pub naming-bench-name-spec : {M : Type 1} → statement M
 naming-bench-name-spec =

@@ -1,5 +1,5 @@
 use native.Mathlib.Omega.{arith}
-use Rattle.reader.proofs.Grammar.{few-tokens}
+use Rattle.token.proofs.Counts.{few-tokens}
 use Rattle.reader.proofs.Wholes.{counted-tokens, read-long, read-short, read-bad, read-begin, read-good}
 use borrow.Author.Needs.{needs}
 use Rattle.reader.proofs.read.Statement.{statement}

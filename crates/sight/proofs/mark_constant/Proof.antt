@@ -6,6 +6,9 @@ use Rattle.sight.proofs.mark_constant.Reads as reads
 use Rattle.sight.proofs.mark_constant.Lts as lts
 use Rattle.area.proofs.symbol.Reads as symbol-reads
 
+cast-symbol : tie.Need-cast-symbol
+cast-symbol c = search needs
+
 symbol-requires : tie.Need-symbol-requires
 symbol-requires c κs = search needs
 
@@ -14,6 +17,9 @@ mul-global c = search needs
 
 slice-read-global : tie.Need-slice-read-global
 slice-read-global c = search needs
+
+cast-symbol-2 : tie.Need-cast-symbol-2
+cast-symbol-2 c = search needs
 
 symbol-requires-2 : tie.Need-symbol-requires-2
 symbol-requires-2 c κs = search needs
@@ -28,18 +34,20 @@ same-length : tie.Need-same-length
 same-length c = search needs
 
 returns : tie.Need-returns
-returns c = constant-set (c .before .before .before .before .before .args .work .now) (c .before .before .before .before .before .args .n) (c .before .before .before .before .before .args .a) (c .before .before .before .symbol .ensures) (c .symbol2 .ensures) (c .before .if1 .taken)
+returns c = constant-set (c .before .before .before .before .before .before .before .args .work .now) (c .before .before .before .before .before .before .before .args .n) (c .before .before .before .before .before .before .before .args .atom .0) (c .before .before .before .before .symbol .ensures) (c .symbol2 .ensures) (c .before .before .if1 .taken)
 
 returns-2 : tie.Need-returns-2
-returns-2 c = constant-kept (c .before .before .before .before .args .work .now) (c .before .before .before .before .args .n) (c .before .before .before .before .args .a) (c .before .before .symbol .ensures) (c .if1 .left)
+returns-2 c = constant-kept (c .before .before .before .before .before .args .work .now) (c .before .before .before .before .before .args .n) (c .before .before .before .before .before .args .atom .0) (c .before .before .symbol .ensures) (c .if1 .left)
 
 pub mark-constant-spec : {M : Type 1} → statement M
 mark-constant-spec =
     tie.close
     (tie.spec
+    cast-symbol
     symbol-requires
     mul-global
     slice-read-global
+    cast-symbol-2
     symbol-requires-2
     mul-work
     slice-write-work

@@ -17,6 +17,9 @@ abbrev μ-loop : tie.MeasureT-loop
 loop-holds : tie.Need-loop-holds Inv-loop μ-loop
 loop-holds c = mark-start _ _ _
 
+cast-t9 : tie.Need-cast-t9 Inv-loop μ-loop
+cast-t9 c = search needs
+
 mark-constant-requires : tie.Need-mark-constant-requires Inv-loop μ-loop
 mark-constant-requires c κs = let b = mark-within (c .before .before .loop .inv) (c .before .before .before .before .pre) (search needs) in omega arith
 
@@ -42,6 +45,7 @@ mark-constants-spec =
     Inv-loop
     μ-loop
     loop-holds
+    cast-t9
     mark-constant-requires
     add-a
     loop-less

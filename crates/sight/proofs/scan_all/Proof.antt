@@ -11,7 +11,7 @@ use Rattle.area.proofs.statement.Reads as statement-reads
 use Rattle.sight.proofs.scan.Reads as scan-reads
 
 abbrev Inv-loop : tie.InvT-loop
-Inv-loop work₀ n vars column depth from v₀ k₀ work v k = InvAll work₀ work n vars v column depth from k
+Inv-loop work₀ n vars column depth from v₀ k₀ work v k = InvAll work₀ work n vars v column depth (from .0) k
 
 abbrev μ-loop : tie.MeasureT-loop
 μ-loop work₀ n vars column depth from v₀ k₀ work v k = depth - k
@@ -22,14 +22,11 @@ loop-holds c = all-start _ _ _ _ _ _
 statement-requires : tie.Need-statement-requires Inv-loop μ-loop
 statement-requires c κs = let b = all-bounds (c .before .loop .inv) (c .before .before .before .pre) (search needs) in omega (arith, c .before .before .before .pre .column)
 
-mul-row : tie.Need-mul-row Inv-loop μ-loop
-mul-row c = let b = all-bounds (c .before .before .loop .inv) (c .before .before .before .before .pre) (search needs) in omega (arith, c .before .before .before .before .pre .column)
+mul-t12 : tie.Need-mul-t12 Inv-loop μ-loop
+mul-t12 c = let b = all-bounds (c .before .before .loop .inv) (c .before .before .before .before .pre) (search needs) in omega (arith, c .before .before .before .before .pre .column)
 
-slice-read-row : tie.Need-slice-read-row Inv-loop μ-loop
-slice-read-row c = let b = all-bounds (c .before .before .before .loop .inv) (c .before .before .before .before .before .pre) (search needs) in omega (arith, c .before .before .before .before .before .pre .column)
-
-cast-row : tie.Need-cast-row Inv-loop μ-loop
-cast-row c = omega (arith, c .slice-known2 .given (c .before .statement .result))
+slice-read-t14 : tie.Need-slice-read-t14 Inv-loop μ-loop
+slice-read-t14 c = let b = all-bounds (c .before .before .before .loop .inv) (c .before .before .before .before .before .pre) (search needs) in omega (arith, c .before .before .before .before .before .pre .column)
 
 scan-requires : tie.Need-scan-requires Inv-loop μ-loop
 scan-requires c κs = rw (word-at (c .before .before .before .before .loop .work) (c .before .before .statement .ensures)) (all-can (c .before .before .before .before .loop .inv) (c .before .before .before .before .before .before .pre) (search needs))
@@ -57,9 +54,8 @@ scan-all-spec =
     μ-loop
     loop-holds
     statement-requires
-    mul-row
-    slice-read-row
-    cast-row
+    mul-t12
+    slice-read-t14
     scan-requires
     add-k
     loop-less

@@ -8,6 +8,9 @@ use Rattle.sight.proofs.see.Lts as lts
 use Rattle.area.proofs.bucket.Reads as bucket-reads
 use Rattle.area.proofs.symbol.Reads as symbol-reads
 
+cast-symbol : tie.Need-cast-symbol
+cast-symbol c = search needs
+
 symbol-requires : tie.Need-symbol-requires
 symbol-requires c κs = search needs
 
@@ -18,10 +21,7 @@ slice-read-if1 : tie.Need-slice-read-if1
 slice-read-if1 c = search needs
 
 returns : tie.Need-returns
-returns c = see-old (c .before .before .before .before .args .work .now) (c .before .before .before .before .args .n) (c .before .before .before .before .args .atom) (c .before .before .before .before .args .vars) (c .before .before .symbol .ensures) (c .if1 .taken)
-
-cast-work : tie.Need-cast-work
-cast-work c = search needs
+returns c = see-old (c .before .before .before .before .before .args .work .now) (c .before .before .before .before .before .args .n) (c .before .before .before .before .before .args .atom .0) (c .before .before .before .before .before .args .vars) (c .before .before .symbol .ensures) (c .if1 .taken)
 
 bucket-requires : tie.Need-bucket-requires
 bucket-requires c κs = search needs
@@ -35,8 +35,8 @@ slice-write-work c = search needs
 add-work : tie.Need-add-work
 add-work c = search needs
 
-cast-work-2 : tie.Need-cast-work-2
-cast-work-2 c = search needs
+cast-work : tie.Need-cast-work
+cast-work c = search needs
 
 mul-work-2 : tie.Need-mul-work-2
 mul-work-2 c = search needs
@@ -51,22 +51,22 @@ same-length : tie.Need-same-length
 same-length c = search needs
 
 returns-2 : tie.Need-returns-2
-returns-2 c = see-new (c .before .before .before .before .before .args .work .now) (c .before .before .before .before .before .args .n) (c .before .before .before .before .before .args .atom) (c .before .before .before .before .before .args .vars) (c .before .before .before .symbol .ensures) (c .bucket .ensures) (c .before .if1 .left)
+returns-2 c = see-new (c .before .before .before .before .before .before .args .work .now) (c .before .before .before .before .before .before .args .n) (c .before .before .before .before .before .before .args .atom .0) (c .before .before .before .before .before .before .args .vars) (c .before .before .before .symbol .ensures) (c .bucket .ensures) (c .before .if1 .left)
 
 pub see-spec : {M : Type 1} → statement M
 see-spec =
     tie.close
     (tie.spec
+    cast-symbol
     symbol-requires
     mul-if1
     slice-read-if1
     returns
-    cast-work
     bucket-requires
     mul-work
     slice-write-work
     add-work
-    cast-work-2
+    cast-work
     mul-work-2
     slice-write-work-2
     add-result

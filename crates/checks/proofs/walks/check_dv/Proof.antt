@@ -9,10 +9,10 @@ use Rattle.checks.proofs.walks.walk_dv.Reads as walk-dv-reads
 use Rattle.slots.proofs.mark.forget_dv.Reads as forget-dv-reads
 
 walk-dv-requires : tie.Need-walk-dv-requires
-walk-dv-requires c κs = search needs
+walk-dv-requires c κs = rw (c .before .before .before .before .before .pre .1) (c .before .before .before .before .before .pre .0)
 
 forget-dv-requires : tie.Need-forget-dv-requires
-forget-dv-requires c κs = (room-kept (c .before .before .before .before .before .walk-dv .ensures .kept) (c .before .before .before .before .before .before .before .before .before .before .pre .room), atoms-kept (c .before .before .before .before .before .walk-dv .ensures .kept) (c .before .before .before .before .before .before .before .before .before .before .pre .atoms))
+forget-dv-requires c κs = (room-kept (c .before .before .before .before .before .walk-dv .ensures .kept) (c .before .before .before .before .before .before .before .before .before .before .before .pre .0 .room), atoms-kept (c .before .before .before .before .before .walk-dv .ensures .kept) (c .before .before .before .before .before .before .before .before .before .before .before .pre .0 .atoms))
 
 same-length : tie.Need-same-length
 same-length c = search needs
@@ -21,7 +21,7 @@ same-length-2 : tie.Need-same-length-2
 same-length-2 c = search needs
 
 returns : tie.Need-returns
-returns c = dv-forgot (c .before .before .before .before .before .before .before .before .walk-dv .ensures) (c .before .before .forget-dv .ensures)
+returns c = dv-forgot (rw (c .before .before .before .before .before .before .before .before .before .before .before .before .before .before .pre .1) at (c .before .before .before .before .before .before .before .before .walk-dv .ensures)) (c .before .before .forget-dv .ensures)
 
 pub check-dv-spec : {M : Type 1} → statement M
 check-dv-spec =

@@ -4,7 +4,8 @@ use Rattle.slots.proofs.Kept.{room-kept}
 use Rattle.checks.specs.Visible.{visible-from}
 use Rattle.checks.proofs.Comments.{first-of, none-of}
 use Rattle.checks.proofs.OverRows.{can-token}
-use Rattle.checks.proofs.OverPart.{take-one, left-less, InvNested, nested-start, nested-step, nested-end}
+use Rattle.checks.proofs.Each.{take-one, left-less}
+use Rattle.checks.proofs.OverPart.{InvNested, nested-start, nested-step, nested-end}
 use borrow.Author.Needs.{needs}
 use Rattle.checks.proofs.walks.walk_nested.Statement.{statement}
 use Rattle.checks.proofs.walks.walk_nested.Tie as tie
@@ -16,10 +17,10 @@ use Rattle.slots.proofs.cells.of_math.Reads as of-math-reads
 use Rattle.token.proofs.class.table.Reads as table-reads
 
 abbrev Inv-loop : tie.InvT-loop
-Inv-loop part work₀ n diags₀ at first from end s classes p₀ i₀ c₀ work diags p i c = InvNested work₀ work part diags₀ diags n at p first from end (s .0) c i
+Inv-loop part work₀ n diags₀ at first from end s classes p₀ i₀ c₀ work diags p i c = InvNested work₀ work part diags₀ diags n at p first from end (s .0) (c .at) i
 
 abbrev μ-loop : tie.MeasureT-loop
-μ-loop part work₀ n diags₀ at first from end s classes p₀ i₀ c₀ work diags p i c = length (visible-from part c)
+μ-loop part work₀ n diags₀ at first from end s classes p₀ i₀ c₀ work diags p i c = length (visible-from part (c .at))
 
 table-requires : tie.Need-table-requires Inv-loop μ-loop
 table-requires c κs = search needs
@@ -39,14 +40,14 @@ add-of-math c = let x = take-one (c .before .before .before .before .before .bef
 of-math-requires : tie.Need-of-math-requires Inv-loop μ-loop
 of-math-requires c κs = let x = take-one (c .before .before .before .before .before .before .loop .inv .left) (first-of (rw (c .before .before .x .given .1) at (c .before .before .before .before .next-visible .ensures))) in (room-kept (c .before .before .before .before .before .before .loop .inv .kept) (c .before .before .before .before .before .before .before .before .before .before .before .pre .walk .room), omega (arith, x .inside, c .before .before .before .before .before .before .before .before .before .before .before .pre .walk .atoms .rows))
 
-cast-t21 : tie.Need-cast-t21 Inv-loop μ-loop
-cast-t21 c = let f = (first-of (rw (c .before .before .before .before .x .given .1) at (c .before .before .before .before .before .before .next-visible .ensures))) in omega (arith, f .some, f .within, c .before .before .before .before .before .before .before .before .before .before .before .before .before .pre .short)
+cast-t22 : tie.Need-cast-t22 Inv-loop μ-loop
+cast-t22 c = let f = (first-of (rw (c .before .before .before .before .x .given .1) at (c .before .before .before .before .before .before .next-visible .ensures))) in omega (arith, f .some, f .within, c .before .before .before .before .before .before .before .before .before .before .before .before .before .pre .short)
 
-add-t25 : tie.Need-add-t25 Inv-loop μ-loop
-add-t25 c = let f = (first-of (rw (c .before .before .before .before .x .given .1) at (c .before .before .before .before .before .before .next-visible .ensures))) in omega (arith, f .some, f .within, c .before .before .before .before .before .before .before .before .before .before .before .before .before .pre .short)
+add-t26 : tie.Need-add-t26 Inv-loop μ-loop
+add-t26 c = let f = (first-of (rw (c .before .before .before .before .x .given .1) at (c .before .before .before .before .before .before .next-visible .ensures))) in omega (arith, f .some, f .within, c .before .before .before .before .before .before .before .before .before .before .before .before .before .pre .short)
 
-cast-t21-2 : tie.Need-cast-t21-2 Inv-loop μ-loop
-cast-t21-2 c = let x = take-one (c .before .before .before .before .before .before .before .before .loop .inv .left) (first-of (rw (c .before .before .before .before .x .given .1) at (c .before .before .before .before .before .before .next-visible .ensures))) in omega (arith, x .inside, c .before .before .before .before .before .before .before .before .before .before .before .before .before .pre .walk .atoms .rows, c .before .before .before .before .before .before .before .before .before .before .before .before .before .pre .walk .room .small)
+cast-t22-2 : tie.Need-cast-t22-2 Inv-loop μ-loop
+cast-t22-2 c = let x = take-one (c .before .before .before .before .before .before .before .before .loop .inv .left) (first-of (rw (c .before .before .before .before .x .given .1) at (c .before .before .before .before .before .before .next-visible .ensures))) in omega (arith, x .inside, c .before .before .before .before .before .before .before .before .before .before .before .before .before .pre .walk .atoms .rows, c .before .before .before .before .before .before .before .before .before .before .before .before .before .pre .walk .room .small)
 
 check-nested-requires : tie.Need-check-nested-requires Inv-loop μ-loop
 check-nested-requires c κs = let x = take-one (c .before .before .before .before .before .before .before .before .before .before .loop .inv .left) (first-of (rw (c .before .before .before .before .before .before .x .given .1) at (c .before .before .before .before .before .before .before .before .next-visible .ensures))) in can-token (c .before .before .before .before .before .before .before .before .before .before .before .before .before .before .before .pre .walk) (c .before .before .before .before .before .before .before .before .before .before .loop .inv .kept) (omega (arith, c .before .before .before .before .before .before .before .before .before .before .loop .inv .few)) (x .inside) (c .before .before .before .of-math .ensures)
@@ -96,9 +97,9 @@ walk-nested-spec =
     enum-known-x
     add-of-math
     of-math-requires
-    cast-t21
-    add-t25
-    cast-t21-2
+    cast-t22
+    add-t26
+    cast-t22-2
     check-nested-requires
     add-i
     loop-less

@@ -4,7 +4,8 @@ use Rattle.slots.proofs.Kept.{kept-none}
 use Rattle.checks.specs.Visible.{visible-from}
 use Rattle.checks.proofs.Comments.{first-of, none-of}
 use Rattle.checks.proofs.OverRows.{can-token}
-use Rattle.checks.proofs.OverPart.{take-one, left-less, InvOuter, outer-start, outer-step, outer-end}
+use Rattle.checks.proofs.Each.{take-one, left-less}
+use Rattle.checks.proofs.OverPart.{InvOuter, outer-start, outer-step, outer-end}
 use borrow.Author.Needs.{needs}
 use Rattle.checks.proofs.walks.walk_outer.Statement.{statement}
 use Rattle.checks.proofs.walks.walk_outer.Tie as tie
@@ -16,10 +17,10 @@ use Rattle.slots.proofs.cells.of_math.Reads as of-math-reads
 use Rattle.token.proofs.class.table.Reads as table-reads
 
 abbrev Inv-loop : tie.InvT-loop
-Inv-loop part work n diags₀ at first from s classes p₀ i₀ c₀ diags p i c = InvOuter work part diags₀ diags n at p first from (s .0) c i
+Inv-loop part work n diags₀ at first from s classes p₀ i₀ c₀ diags p i c = InvOuter work part diags₀ diags n at p first from (s .0) (c .at) i
 
 abbrev μ-loop : tie.MeasureT-loop
-μ-loop part work n diags₀ at first from s classes p₀ i₀ c₀ diags p i c = length (visible-from part c)
+μ-loop part work n diags₀ at first from s classes p₀ i₀ c₀ diags p i c = length (visible-from part (c .at))
 
 table-requires : tie.Need-table-requires Inv-loop μ-loop
 table-requires c κs = search needs
@@ -39,14 +40,14 @@ add-of-math c = let x = take-one (c .before .before .before .before .before .loo
 of-math-requires : tie.Need-of-math-requires Inv-loop μ-loop
 of-math-requires c κs = let x = take-one (c .before .before .before .before .before .loop .inv .left) (first-of (rw (c .before .x .given .1) at (c .before .before .before .next-visible .ensures))) in (c .before .before .before .before .before .before .before .before .before .before .pre .walk .room, omega (arith, x .inside, c .before .before .before .before .before .before .before .before .before .before .pre .walk .atoms .rows))
 
-cast-t19 : tie.Need-cast-t19 Inv-loop μ-loop
-cast-t19 c = let f = (first-of (rw (c .before .before .before .x .given .1) at (c .before .before .before .before .before .next-visible .ensures))) in omega (arith, f .some, f .within, c .before .before .before .before .before .before .before .before .before .before .before .before .pre .short)
+cast-t20 : tie.Need-cast-t20 Inv-loop μ-loop
+cast-t20 c = let f = (first-of (rw (c .before .before .before .x .given .1) at (c .before .before .before .before .before .next-visible .ensures))) in omega (arith, f .some, f .within, c .before .before .before .before .before .before .before .before .before .before .before .before .pre .short)
 
-add-t21 : tie.Need-add-t21 Inv-loop μ-loop
-add-t21 c = let f = (first-of (rw (c .before .before .before .x .given .1) at (c .before .before .before .before .before .next-visible .ensures))) in omega (arith, f .some, f .within, c .before .before .before .before .before .before .before .before .before .before .before .before .pre .short)
+add-t22 : tie.Need-add-t22 Inv-loop μ-loop
+add-t22 c = let f = (first-of (rw (c .before .before .before .x .given .1) at (c .before .before .before .before .before .next-visible .ensures))) in omega (arith, f .some, f .within, c .before .before .before .before .before .before .before .before .before .before .before .before .pre .short)
 
-cast-t19-2 : tie.Need-cast-t19-2 Inv-loop μ-loop
-cast-t19-2 c = let x = take-one (c .before .before .before .before .before .before .before .before .loop .inv .left) (first-of (rw (c .before .before .before .before .x .given .1) at (c .before .before .before .before .before .before .next-visible .ensures))) in omega (arith, x .inside, c .before .before .before .before .before .before .before .before .before .before .before .before .before .pre .walk .atoms .rows, c .before .before .before .before .before .before .before .before .before .before .before .before .before .pre .walk .room .small)
+cast-t20-2 : tie.Need-cast-t20-2 Inv-loop μ-loop
+cast-t20-2 c = let x = take-one (c .before .before .before .before .before .before .before .before .loop .inv .left) (first-of (rw (c .before .before .before .before .x .given .1) at (c .before .before .before .before .before .before .next-visible .ensures))) in omega (arith, x .inside, c .before .before .before .before .before .before .before .before .before .before .before .before .before .pre .walk .atoms .rows, c .before .before .before .before .before .before .before .before .before .before .before .before .before .pre .walk .room .small)
 
 check-outer-requires : tie.Need-check-outer-requires Inv-loop μ-loop
 check-outer-requires c κs = let x = take-one (c .before .before .before .before .before .before .before .before .loop .inv .left) (first-of (rw (c .before .before .before .before .x .given .1) at (c .before .before .before .before .before .before .next-visible .ensures))) in can-token (c .before .before .before .before .before .before .before .before .before .before .before .before .before .pre .walk) (kept-none _ 12 12 2 7 _) (omega (arith, c .before .before .before .before .before .before .before .before .loop .inv .few)) (x .inside) (c .before .before .of-math .ensures)
@@ -90,9 +91,9 @@ walk-outer-spec =
     enum-known-x
     add-of-math
     of-math-requires
-    cast-t19
-    add-t21
-    cast-t19-2
+    cast-t20
+    add-t22
+    cast-t20-2
     check-outer-requires
     add-i
     loop-less

@@ -10,14 +10,20 @@ use Rattle.stream.proofs.bits.bit_at.Reads as bit-at-reads
 use Rattle.stream.proofs.bits.set_bit.Reads as set-bit-reads
 use Rattle.stream.proofs.write.put_u16.Reads as put-u16-reads
 
+cast-i : tie.Need-cast-i
+cast-i c = search needs
+
+cast-j : tie.Need-cast-j
+cast-j c = search needs
+
 mul-line : tie.Need-mul-line
-mul-line c = record { fits = omega (arith, pair-fits (c .before .before .pre)) }
+mul-line c = record { fits = omega (arith, pair-fits (c .before .before .before .before .pre)) }
 
 add-line : tie.Need-add-line
-add-line c = record { fits = omega (arith, pair-fits (c .before .before .before .pre)) }
+add-line c = record { fits = omega (arith, pair-fits (c .before .before .before .before .before .pre)) }
 
 bit-at-requires : tie.Need-bit-at-requires
-bit-at-requires c κs = omega (arith, pair-fits (c .before .before .before .before .pre))
+bit-at-requires c κs = omega (arith, pair-fits (c .before .before .before .before .before .before .pre))
 
 same-length : tie.Need-same-length
 same-length c = search needs
@@ -26,16 +32,16 @@ returns : tie.Need-returns
 returns c = drew-old _ _ _ _ _ (sym (c .before .bit-at .ensures) ∙ c .if1 .taken)
 
 set-bit-requires : tie.Need-set-bit-requires
-set-bit-requires c κs = omega (arith, pair-fits (c .before .before .before .before .before .before .before .pre))
+set-bit-requires c κs = omega (arith, pair-fits (c .before .before .before .before .before .before .before .before .before .pre))
 
 mul-set-bit : tie.Need-mul-set-bit
-mul-set-bit c = record { fits = omega (arith, pair-fits (c .before .before .before .before .before .before .before .before .before .before .before .before .pre)) }
+mul-set-bit c = record { fits = omega (arith, pair-fits (c .before .before .before .before .before .before .before .before .before .before .before .before .before .before .pre)) }
 
 add-set-bit : tie.Need-add-set-bit
-add-set-bit c = record { fits = omega (arith, pair-fits (c .before .before .before .before .before .before .before .before .before .before .before .before .before .pre)) }
+add-set-bit c = record { fits = omega (arith, pair-fits (c .before .before .before .before .before .before .before .before .before .before .before .before .before .before .before .pre)) }
 
 set-bit-requires-2 : tie.Need-set-bit-requires-2
-set-bit-requires-2 c κs = omega (arith, pair-fits (c .before .before .before .before .before .before .before .before .before .before .before .before .before .pre))
+set-bit-requires-2 c κs = omega (arith, pair-fits (c .before .before .before .before .before .before .before .before .before .before .before .before .before .before .before .pre))
 
 same-length-2 : tie.Need-same-length-2
 same-length-2 c = search needs
@@ -50,10 +56,10 @@ returns-3 : tie.Need-returns-3
 returns-3 c = drew-right _ _ _ _ _ (sym (c .before .before .before .before .before .before .before .before .before .before .before .before .before .before .before .bit-at .ensures) ∙ c .before .before .before .before .before .before .before .before .before .before .before .before .before .before .if1 .left) (c .before .before .before .before .before .before .before .before .before .before .before .before .set-bit .ensures) (c .before .before .before .before .before .before .set-bit2 .ensures) (c .if3 .taken)
 
 put-u16-requires : tie.Need-put-u16-requires
-put-u16-requires c κs = omega (arith, pair-fits (c .before .before .before .before .before .before .before .before .before .before .before .before .before .before .before .before .before .before .before .before .before .pre))
+put-u16-requires c κs = omega (arith, pair-fits (c .before .before .before .before .before .before .before .before .before .before .before .before .before .before .before .before .before .before .before .before .before .before .before .pre))
 
 put-u16-requires-2 : tie.Need-put-u16-requires-2
-put-u16-requires-2 c κs = omega (arith, pair-fits (c .before .before .before .before .before .before .before .before .before .before .before .before .before .before .before .before .before .before .before .before .before .before .before .before .before .pre), c .before .before .before .put-u16 .ensures .0)
+put-u16-requires-2 c κs = omega (arith, pair-fits (c .before .before .before .before .before .before .before .before .before .before .before .before .before .before .before .before .before .before .before .before .before .before .before .before .before .before .before .pre), c .before .before .before .put-u16 .ensures .0)
 
 same-length-4 : tie.Need-same-length-4
 same-length-4 c = search needs
@@ -65,6 +71,8 @@ pub put-pair-spec : {M : Type 1} → statement M
 put-pair-spec =
     tie.close
     (tie.spec
+    cast-i
+    cast-j
     mul-line
     add-line
     bit-at-requires

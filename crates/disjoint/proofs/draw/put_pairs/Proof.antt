@@ -21,9 +21,6 @@ loop-holds c = all-drawn-begin _ _ _ _ _ _
 of-statement-requires : tie.Need-of-statement-requires Inv-loop μ-loop
 of-statement-requires c κs = (c .before .before .before .before .pre .walk .stacked .buckets .room, omega (arith, c .before .before .before .before .pre .walk .stacked .depth), omega arith)
 
-cast-row : tie.Need-cast-row Inv-loop μ-loop
-cast-row c = search needs
-
 put-pairs-of-requires : tie.Need-put-pairs-of-requires Inv-loop μ-loop
 put-pairs-of-requires c κs = all-drawn-can (c .before .before .before .loop .inv) (c .before .before .before .before .before .before .pre) (search needs) (c .before .of-statement .ensures)
 
@@ -50,7 +47,6 @@ put-pairs-spec =
     μ-loop
     loop-holds
     of-statement-requires
-    cast-row
     put-pairs-of-requires
     add-k
     loop-less

@@ -12,43 +12,55 @@ use Rattle.disjoint.proofs.tally.number.Reads as number-reads
 use Rattle.slots.proofs.cells.of_statement.Reads as of-statement-reads
 
 abbrev Inv-loop : tie.InvT-loop
-Inv-loop work n buf₀ at g row i first count x a₀ j₀ buf a j = InvAt work buf₀ buf n row i g at a x j
+Inv-loop work n buf₀ at g line k first count x a₀ j₀ buf a j = InvAt work buf₀ buf n line k g at a (x .0) j
 
 abbrev μ-loop : tie.MeasureT-loop
-μ-loop work n buf₀ at g row i first count x a₀ j₀ buf a j = count - j
+μ-loop work n buf₀ at g line k first count x a₀ j₀ buf a j = count - j
+
+cast-line : tie.Need-cast-line Inv-loop μ-loop
+cast-line c = search needs
+
+cast-k : tie.Need-cast-k Inv-loop μ-loop
+cast-k c = search needs
 
 of-statement-requires : tie.Need-of-statement-requires Inv-loop μ-loop
-of-statement-requires c κs = (c .before .before .pre .walk .buckets .room, c .before .before .pre .walk .row .here, omega arith)
+of-statement-requires c κs = (c .before .before .before .before .pre .walk .buckets .room, c .before .before .before .before .pre .walk .row .here, omega arith)
 
 cast-first : tie.Need-cast-first Inv-loop μ-loop
 cast-first c = search needs
 
 of-statement-requires-2 : tie.Need-of-statement-requires-2 Inv-loop μ-loop
-of-statement-requires-2 c κs = (c .before .before .before .pre .walk .buckets .room, c .before .before .before .pre .walk .row .here, omega arith)
+of-statement-requires-2 c κs = (c .before .before .before .before .before .pre .walk .buckets .room, c .before .before .before .before .before .pre .walk .row .here, omega arith)
 
 cast-count : tie.Need-cast-count Inv-loop μ-loop
 cast-count c = search needs
 
-add-number : tie.Need-add-number Inv-loop μ-loop
-add-number c = omega (arith, token-here (c .before .before .before .before .args .i) (c .before .before .before .before .pre .walk .row) (c .before .of-statement .ensures) (c .of-statement2 .ensures) (omega (arith, c .of-statement2 .ensures, c .before .before .before .before .pre .here)) .here, c .before .before .before .before .pre .walk .buckets .room .small)
+add-t17 : tie.Need-add-t17 Inv-loop μ-loop
+add-t17 c = omega (arith, token-here (c .before .before .before .before .before .before .args .i .0) (c .before .before .before .before .before .before .pre .walk .row) (c .before .of-statement .ensures) (c .of-statement2 .ensures) (omega (arith, c .of-statement2 .ensures, c .before .before .before .before .before .before .pre .here)) .here, c .before .before .before .before .before .before .pre .walk .buckets .room .small)
+
+cast-t16 : tie.Need-cast-t16 Inv-loop μ-loop
+cast-t16 c = omega (arith, token-here (c .before .before .before .before .before .before .args .i .0) (c .before .before .before .before .before .before .pre .walk .row) (c .before .of-statement .ensures) (c .of-statement2 .ensures) (omega (arith, c .of-statement2 .ensures, c .before .before .before .before .before .before .pre .here)) .here, c .before .before .before .before .before .before .pre .walk .buckets .room .small)
 
 number-requires : tie.Need-number-requires Inv-loop μ-loop
-number-requires c κs = (c .before .before .before .before .pre .walk .buckets .room, token-here _ (c .before .before .before .before .pre .walk .row) (c .before .of-statement .ensures) (c .of-statement2 .ensures) (omega (arith, c .of-statement2 .ensures, c .before .before .before .before .pre .here)))
+number-requires c κs = (c .before .before .before .before .before .before .pre .walk .buckets .room, token-here _ (c .before .before .before .before .before .before .pre .walk .row) (c .before .of-statement .ensures) (c .of-statement2 .ensures) (omega (arith, c .of-statement2 .ensures, c .before .before .before .before .before .before .pre .here)))
 
 add-j : tie.Need-add-j Inv-loop μ-loop
-add-j c = omega (arith, c .before .before .before .before .before .pre .here, c .before .of-statement2 .ensures)
+add-j c = omega (arith, c .before .before .before .before .before .before .before .pre .here, c .before .of-statement2 .ensures)
 
 loop-holds : tie.Need-loop-holds Inv-loop μ-loop
-loop-holds c = at-begin _ _ _ _ _ _ _ (c .before .before .before .before .before .pre .here) (c .before .before .of-statement .ensures) (c .number .ensures)
+loop-holds c = at-begin _ _ _ _ _ _ _ (c .before .before .before .before .before .before .before .pre .here) (c .before .before .of-statement .ensures) (c .number .ensures)
 
-add-number-2 : tie.Need-add-number-2 Inv-loop μ-loop
-add-number-2 c = omega (arith, token-here (c .before .loop .j) (c .before .before .before .before .before .before .before .pre .walk .row) (c .before .before .before .before .of-statement .ensures) (c .before .before .before .of-statement2 .ensures) (search needs) .here, c .before .before .before .before .before .before .before .pre .walk .buckets .room .small)
+add-t20 : tie.Need-add-t20 Inv-loop μ-loop
+add-t20 c = omega (arith, token-here (c .before .loop .j) (c .before .before .before .before .before .before .before .before .before .pre .walk .row) (c .before .before .before .before .of-statement .ensures) (c .before .before .before .of-statement2 .ensures) (search needs) .here, c .before .before .before .before .before .before .before .before .before .pre .walk .buckets .room .small)
+
+cast-t21 : tie.Need-cast-t21 Inv-loop μ-loop
+cast-t21 c = omega (arith, token-here (c .before .loop .j) (c .before .before .before .before .before .before .before .before .before .pre .walk .row) (c .before .before .before .before .of-statement .ensures) (c .before .before .before .of-statement2 .ensures) (search needs) .here, c .before .before .before .before .before .before .before .before .before .pre .walk .buckets .room .small)
 
 number-requires-2 : tie.Need-number-requires-2 Inv-loop μ-loop
-number-requires-2 c κs = (c .before .before .before .before .before .before .before .pre .walk .buckets .room, token-here _ (c .before .before .before .before .before .before .before .pre .walk .row) (c .before .before .before .before .of-statement .ensures) (c .before .before .before .of-statement2 .ensures) (search needs))
+number-requires-2 c κs = (c .before .before .before .before .before .before .before .before .before .pre .walk .buckets .room, token-here _ (c .before .before .before .before .before .before .before .before .before .pre .walk .row) (c .before .before .before .before .of-statement .ensures) (c .before .before .before .of-statement2 .ensures) (search needs))
 
 put-pair-requires : tie.Need-put-pair-requires Inv-loop μ-loop
-put-pair-requires c κs = at-can (c .before .before .before .loop .inv) (c .before .before .before .before .before .before .of-statement .ensures) (c .before .before .before .before .before .of-statement2 .ensures) (c .before .before .before .before .before .before .before .before .before .pre .draw) (search needs) (c .before .number2 .ensures)
+put-pair-requires c κs = at-can (c .before .before .before .loop .inv) (c .before .before .before .before .before .before .of-statement .ensures) (c .before .before .before .before .before .of-statement2 .ensures) (c .before .before .before .before .before .before .before .before .before .before .before .pre .draw) (search needs) (c .before .number2 .ensures)
 
 add-j-2 : tie.Need-add-j-2 Inv-loop μ-loop
 add-j-2 c = search needs
@@ -71,15 +83,19 @@ put-pairs-at-spec =
     (tie.spec
     Inv-loop
     μ-loop
+    cast-line
+    cast-k
     of-statement-requires
     cast-first
     of-statement-requires-2
     cast-count
-    add-number
+    add-t17
+    cast-t16
     number-requires
     add-j
     loop-holds
-    add-number-2
+    add-t20
+    cast-t21
     number-requires-2
     put-pair-requires
     add-j-2

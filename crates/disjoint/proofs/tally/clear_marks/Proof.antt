@@ -18,14 +18,17 @@ abbrev μ-loop : tie.MeasureT-loop
 loop-holds : tie.Need-loop-holds Inv-loop μ-loop
 loop-holds c = clear-begin _ _ _
 
+cast-t9 : tie.Need-cast-t9 Inv-loop μ-loop
+cast-t9 c = search needs
+
 atom-of-requires : tie.Need-atom-of-requires Inv-loop μ-loop
 atom-of-requires c κs = let b = clear-room (c .before .before .before .before .pre) (c .before .before .loop .inv) (search needs) .0 in (b .room, omega (arith, b .most, c .before .before .before .before .pre .mandatory))
 
-cast-atom : tie.Need-cast-atom Inv-loop μ-loop
-cast-atom c = search needs
+cast-put-symbol : tie.Need-cast-put-symbol Inv-loop μ-loop
+cast-put-symbol c = search needs
 
 put-symbol-requires : tie.Need-put-symbol-requires Inv-loop μ-loop
-put-symbol-requires c κs = let b = clear-room (c .before .before .before .before .before .before .pre) (c .before .before .before .before .loop .inv) (search needs) in (b .0 .room, omega (arith, c .before .atom-of .ensures, b .1), omega arith)
+put-symbol-requires c κs = let b = clear-room (c .before .before .before .before .before .before .before .pre) (c .before .before .before .before .before .loop .inv) (search needs) in (b .0 .room, omega (arith, c .before .before .atom-of .ensures, b .1), omega arith)
 
 add-k : tie.Need-add-k Inv-loop μ-loop
 add-k c = search needs
@@ -34,7 +37,7 @@ loop-less : tie.Need-loop-less Inv-loop μ-loop
 loop-less c = search needs
 
 loop-again : tie.Need-loop-again Inv-loop μ-loop
-loop-again c = clear-step (c .before .before .before .before .before .before .before .before .before .pre) (c .before .before .before .before .before .before .before .loop .inv) (search needs) (c .before .before .before .before .atom-of .ensures) (c .before .before .put-symbol .ensures)
+loop-again c = clear-step (c .before .before .before .before .before .before .before .before .before .before .pre) (c .before .before .before .before .before .before .before .before .loop .inv) (search needs) (c .before .before .before .before .before .atom-of .ensures) (c .before .before .put-symbol .ensures)
 
 same-length : tie.Need-same-length Inv-loop μ-loop
 same-length c = c .before .loop .inv .kept .len
@@ -49,8 +52,9 @@ clear-marks-spec =
     Inv-loop
     μ-loop
     loop-holds
+    cast-t9
     atom-of-requires
-    cast-atom
+    cast-put-symbol
     put-symbol-requires
     add-k
     loop-less

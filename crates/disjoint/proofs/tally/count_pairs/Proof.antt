@@ -17,6 +17,9 @@ abbrev μ-loop : tie.MeasureT-loop
 loop-holds : tie.Need-loop-holds Inv-loop μ-loop
 loop-holds c = all-begin (c .before .pre)
 
+cast-t11 : tie.Need-cast-t11 Inv-loop μ-loop
+cast-t11 c = search needs
+
 count-pairs-of-requires : tie.Need-count-pairs-of-requires Inv-loop μ-loop
 count-pairs-of-requires c κs = all-can (c .before .before .before .before .pre) (c .before .before .loop .inv) (search needs)
 
@@ -47,6 +50,7 @@ count-pairs-spec =
     Inv-loop
     μ-loop
     loop-holds
+    cast-t11
     count-pairs-of-requires
     add-sum
     add-u

@@ -10,7 +10,7 @@ use Rattle.disjoint.proofs.tally.mark_with.Reads as mark-with-reads
 use Rattle.slots.proofs.cells.of_statement.Reads as of-statement-reads
 
 abbrev Inv-loop : tie.InvT-loop
-Inv-loop work₀ n m ds u sum₀ k₀ work sum k = InvOf work₀ work n m ds u sum k
+Inv-loop work₀ n m ds u sum₀ k₀ work sum k = InvOf work₀ work n m ds (u .0) sum k
 
 abbrev μ-loop : tie.MeasureT-loop
 μ-loop work₀ n m ds u sum₀ k₀ work sum k = ds - k
@@ -20,9 +20,6 @@ loop-holds c = of-begin _ _ _ _ _
 
 of-statement-requires : tie.Need-of-statement-requires Inv-loop μ-loop
 of-statement-requires c κs = let b = of-room (c .before .before .before .before .pre) (c .before .before .loop .inv) (search needs) in (b .0 .room, b .1, omega arith)
-
-cast-row : tie.Need-cast-row Inv-loop μ-loop
-cast-row c = search needs
 
 mark-with-requires : tie.Need-mark-with-requires Inv-loop μ-loop
 mark-with-requires c κs = of-can (c .before .before .before .before .before .before .pre) (c .before .before .before .before .loop .inv) (search needs) (c .before .of-statement .ensures)
@@ -55,7 +52,6 @@ count-pairs-of-spec =
     μ-loop
     loop-holds
     of-statement-requires
-    cast-row
     mark-with-requires
     add-sum
     add-k

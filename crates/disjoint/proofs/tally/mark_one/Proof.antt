@@ -9,6 +9,12 @@ use Rattle.slots.proofs.cells.of_math.Reads as of-math-reads
 use Rattle.slots.proofs.cells.of_symbol.Reads as of-symbol-reads
 use Rattle.slots.proofs.cells.put_symbol.Reads as put-symbol-reads
 
+cast-v : tie.Need-cast-v
+cast-v c = search needs
+
+cast-of-math : tie.Need-cast-of-math
+cast-of-math c = search needs
+
 of-math-requires : tie.Need-of-math-requires
 of-math-requires c κs = search needs
 
@@ -16,7 +22,7 @@ cast-atom : tie.Need-cast-atom
 cast-atom c = search needs
 
 of-symbol-requires : tie.Need-of-symbol-requires
-of-symbol-requires c κs = (c .before .before .before .before .pre .room, atom-below _ _ _ (c .before .of-math .ensures) (c .before .before .before .before .pre .token), omega arith)
+of-symbol-requires c κs = (c .before .before .before .before .before .before .pre .room, atom-below _ _ _ (c .before .of-math .ensures) (c .before .before .before .before .before .before .pre .token), omega arith)
 
 cast-k : tie.Need-cast-k
 cast-k c = search needs
@@ -37,7 +43,7 @@ returns-2 : tie.Need-returns-2
 returns-2 c = one-high _ _ _ _ _ (c .before .before .before .before .of-math .ensures) (c .before .before .of-symbol .ensures) (search needs) (c .if2 .taken)
 
 of-symbol-requires-2 : tie.Need-of-symbol-requires-2
-of-symbol-requires-2 c κs = (c .before .before .before .before .before .before .before .before .pre .room, atom-below _ _ _ (c .before .before .before .before .before .of-math .ensures) (c .before .before .before .before .before .before .before .before .pre .token), omega arith)
+of-symbol-requires-2 c κs = (c .before .before .before .before .before .before .before .before .before .before .pre .room, atom-below _ _ _ (c .before .before .before .before .before .of-math .ensures) (c .before .before .before .before .before .before .before .before .before .before .pre .token), omega arith)
 
 cast-if3 : tie.Need-cast-if3
 cast-if3 c = search needs
@@ -58,7 +64,7 @@ cast-put-symbol : tie.Need-cast-put-symbol
 cast-put-symbol c = search needs
 
 put-symbol-requires : tie.Need-put-symbol-requires
-put-symbol-requires c κs = (c .before .before .before .before .before .before .before .before .before .before .before .pre .room, atom-below _ _ _ (c .before .before .before .before .before .before .before .before .of-math .ensures) (c .before .before .before .before .before .before .before .before .before .before .before .pre .token), omega arith)
+put-symbol-requires c κs = (c .before .before .before .before .before .before .before .before .before .before .before .before .before .pre .room, atom-below _ _ _ (c .before .before .before .before .before .before .before .before .of-math .ensures) (c .before .before .before .before .before .before .before .before .before .before .before .before .before .pre .token), omega arith)
 
 same-length-4 : tie.Need-same-length-4
 same-length-4 c = search needs
@@ -70,6 +76,8 @@ pub mark-one-spec : {M : Type 1} → statement M
 mark-one-spec =
     tie.close
     (tie.spec
+    cast-v
+    cast-of-math
     of-math-requires
     cast-atom
     of-symbol-requires

@@ -10,6 +10,9 @@ use Rattle.disjoint.proofs.tally.number.Lts as lts
 use Rattle.slots.proofs.cells.of_math.Reads as of-math-reads
 use Rattle.slots.proofs.cells.of_symbol.Reads as of-symbol-reads
 
+cast-of-math : tie.Need-cast-of-math
+cast-of-math c = search needs
+
 of-math-requires : tie.Need-of-math-requires
 of-math-requires c κs = search needs
 
@@ -17,13 +20,10 @@ cast-atom : tie.Need-cast-atom
 cast-atom c = search needs
 
 of-symbol-requires : tie.Need-of-symbol-requires
-of-symbol-requires c κs = (c .before .before .pre .0, atom-below _ _ _ (c .of-math .ensures) (c .before .before .pre .1), omega arith)
+of-symbol-requires c κs = (c .before .before .before .pre .0, atom-below _ _ _ (c .of-math .ensures) (c .before .before .before .pre .1), omega arith)
 
-cast-result : tie.Need-cast-result
-cast-result c = search needs
-
-sub-result : tie.Need-sub-result
-sub-result c = omega (arith, read-number _ _ _ (c .before .of-math .ensures) (c .of-symbol .ensures), c .before .before .before .pre .1 .some)
+sub-t7 : tie.Need-sub-t7
+sub-t7 c = omega (arith, read-number _ _ _ (c .before .of-math .ensures) (c .of-symbol .ensures), c .before .before .before .before .pre .1 .some)
 
 returns : tie.Need-returns
 returns c = ap (λ k. k - 1) (read-number _ _ _ (c .before .of-math .ensures) (c .of-symbol .ensures))
@@ -31,4 +31,10 @@ returns c = ap (λ k. k - 1) (read-number _ _ _ (c .before .of-math .ensures) (c
 pub number-spec : {M : Type 1} → statement M
 number-spec =
     tie.close
-    (tie.spec of-math-requires cast-atom of-symbol-requires cast-result sub-result returns)
+    (tie.spec
+    cast-of-math
+    of-math-requires
+    cast-atom
+    of-symbol-requires
+    sub-t7
+    returns)

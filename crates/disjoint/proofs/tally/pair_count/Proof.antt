@@ -21,4 +21,9 @@ returns c = count-done (c .before .before .before .before .before .before .befor
 
 pub pair-count-spec : {M : Type 1} → statement M
 pair-count-spec =
-    tie.close (tie.spec count-pairs-requires clear-marks-requires same-length returns)
+    tie.close
+    (tie.spec
+    count-pairs-requires
+    clear-marks-requires
+    same-length
+    returns)

@@ -9,11 +9,14 @@ use Rattle.fold.proofs.all.fold_statement.Lts as lts
 use Rattle.fold.proofs.turn.frame_statement.Reads as frame-statement-reads
 use Rattle.scopeck.proofs.statements.check_statement.Reads as check-statement-reads
 
+cast-check-statement : tie.Need-cast-check-statement
+cast-check-statement c = search needs
+
 check-statement-requires : tie.Need-check-statement-requires
-check-statement-requires c κs = some-checks (c .before .before .before .before .before .before .pre .0)
+check-statement-requires c κs = some-checks (c .before .before .before .before .before .before .before .pre .0)
 
 frame-statement-requires : tie.Need-frame-statement-requires
-frame-statement-requires c κs = (some-turn (c .before .before .before .before .before .before .before .before .before .before .before .before .before .pre .0) (c .before .before .before .before .before .before .check-statement .ensures), omega arith)
+frame-statement-requires c κs = (some-turn (c .before .before .before .before .before .before .before .before .before .before .before .before .before .before .pre .0) (c .before .before .before .before .before .before .check-statement .ensures), omega arith)
 
 enum-known-after : tie.Need-enum-known-after
 enum-known-after c = search needs
@@ -49,6 +52,7 @@ pub fold-statement-spec : {M : Type 1} → statement M
 fold-statement-spec =
     tie.close
     (tie.spec
+    cast-check-statement
     check-statement-requires
     frame-statement-requires
     enum-known-after

@@ -10,8 +10,11 @@ use Rattle.frames.proofs.assert.construct_full_frame.Reads as construct-full-fr
 use Rattle.frames.proofs.stub.construct_stub_frame.Reads as construct-stub-frame-reads
 use Rattle.slots.proofs.cells.of_statement.Reads as of-statement-reads
 
+cast-line : tie.Need-cast-line
+cast-line c = search needs
+
 of-statement-requires : tie.Need-of-statement-requires
-of-statement-requires c κs = let r = turn-room (c .before .before .before .before .pre .0) in (r .0, r .1, omega arith)
+of-statement-requires c κs = let r = turn-room (c .before .before .before .before .before .pre .0) in (r .0, r .1, omega arith)
 
 same-length : tie.Need-same-length
 same-length c = search needs
@@ -20,10 +23,10 @@ returns : tie.Need-returns
 returns c = turn-rejected (sym (c .before .of-statement .ensures) ∙ c .if1 .taken)
 
 of-statement-requires-2 : tie.Need-of-statement-requires-2
-of-statement-requires-2 c κs = let r = turn-room (c .before .before .before .before .before .before .before .pre .0) in (r .0, r .1, omega arith)
+of-statement-requires-2 c κs = let r = turn-room (c .before .before .before .before .before .before .before .before .pre .0) in (r .0, r .1, omega arith)
 
 construct-stub-frame-requires : tie.Need-construct-stub-frame-requires
-construct-stub-frame-requires c κs = (can-stub (c .before .before .before .before .before .before .before .before .before .before .before .pre .0) (sym (c .before .before .before .of-statement2 .ensures) ∙ c .before .before .if2 .taken), omega arith)
+construct-stub-frame-requires c κs = (can-stub (c .before .before .before .before .before .before .before .before .before .before .before .before .pre .0) (sym (c .before .before .before .of-statement2 .ensures) ∙ c .before .before .if2 .taken), omega arith)
 
 same-length-2 : tie.Need-same-length-2
 same-length-2 c = search needs
@@ -32,7 +35,7 @@ same-length-3 : tie.Need-same-length-3
 same-length-3 c = search needs
 
 returns-2 : tie.Need-returns-2
-returns-2 c = turn-stub (c .before .before .before .before .before .before .before .before .before .before .before .before .before .before .pre .0) (λ e. c .before .before .before .before .before .before .before .before .if1 .left (c .before .before .before .before .before .before .before .before .before .of-statement .ensures ∙ e)) (sym (c .before .before .before .before .before .before .of-statement2 .ensures) ∙ c .before .before .before .before .before .if2 .taken) (c .before .before .construct-stub-frame .ensures)
+returns-2 c = turn-stub (c .before .before .before .before .before .before .before .before .before .before .before .before .before .before .before .pre .0) (λ e. c .before .before .before .before .before .before .before .before .if1 .left (c .before .before .before .before .before .before .before .before .before .of-statement .ensures ∙ e)) (sym (c .before .before .before .before .before .before .of-statement2 .ensures) ∙ c .before .before .before .before .before .if2 .taken) (c .before .before .construct-stub-frame .ensures)
 
 same-length-4 : tie.Need-same-length-4
 same-length-4 c = search needs
@@ -41,7 +44,7 @@ returns-3 : tie.Need-returns-3
 returns-3 c = turn-none (λ e. c .before .if2 .left (c .before .before .of-statement2 .ensures ∙ e)) (omega (arith, c .before .before .of-statement2 .ensures))
 
 construct-full-frame-requires : tie.Need-construct-full-frame-requires
-construct-full-frame-requires c κs = (can-frame (c .before .before .before .before .before .before .before .before .before .before .before .before .pre .0) (λ e. c .before .before .before .before .before .before .if1 .left (c .before .before .before .before .before .before .before .of-statement .ensures ∙ e)) (omega (arith, c .before .before .before .before .of-statement2 .ensures)), omega arith)
+construct-full-frame-requires c κs = (can-frame (c .before .before .before .before .before .before .before .before .before .before .before .before .before .pre .0) (λ e. c .before .before .before .before .before .before .if1 .left (c .before .before .before .before .before .before .before .of-statement .ensures ∙ e)) (omega (arith, c .before .before .before .before .of-statement2 .ensures)), omega arith)
 
 same-length-5 : tie.Need-same-length-5
 same-length-5 c = search needs
@@ -56,6 +59,7 @@ pub frame-statement-spec : {M : Type 1} → statement M
 frame-statement-spec =
     tie.close
     (tie.spec
+    cast-line
     of-statement-requires
     same-length
     returns

@@ -1,5 +1,5 @@
 use Prim.Native.Nat.{_-_}
-use Rattle.forms.proofs.Constants.{atom-read, sizes-can}
+use Rattle.forms.proofs.Constants.{sizes-can}
 use Rattle.forms.proofs.Fragments.{InvVariables, variables-begin, variables-step, variables-end}
 use borrow.Author.Needs.{needs}
 use Rattle.forms.proofs.expression.count_variables.Statement.{statement}
@@ -12,29 +12,26 @@ use Rattle.forms.proofs.words.statement_word.Reads as statement-word-re
 use Rattle.forms.proofs.words.symbol_word.Reads as symbol-word-reads
 
 abbrev Inv-loop : tie.InvT-loop
-Inv-loop work n row first count sum₀ i₀ sum i = InvVariables work n row sum i
+Inv-loop work n row count sum₀ i₀ sum i = InvVariables work n (row .0) sum i
 
 abbrev μ-loop : tie.MeasureT-loop
-μ-loop work n row first count sum₀ i₀ sum i = count - i
+μ-loop work n row count sum₀ i₀ sum i = count - i
 
 statement-word-requires : tie.Need-statement-word-requires Inv-loop μ-loop
 statement-word-requires c κs = search needs
 
-statement-word-requires-2 : tie.Need-statement-word-requires-2 Inv-loop μ-loop
-statement-word-requires-2 c κs = search needs
-
 loop-holds : tie.Need-loop-holds Inv-loop μ-loop
-loop-holds c = variables-begin (c .before .before .before .pre)
+loop-holds c = variables-begin (c .before .before .pre)
 
-add-math-word : tie.Need-add-math-word Inv-loop μ-loop
-add-math-word c = search needs
+cast-t9 : tie.Need-cast-t9 Inv-loop μ-loop
+cast-t9 c = search needs
 
 math-word-requires : tie.Need-math-word-requires Inv-loop μ-loop
 math-word-requires c κs = search needs
 
 symbol-word-requires : tie.Need-symbol-word-requires Inv-loop μ-loop
 symbol-word-requires c κs =
-    let s = sizes-can (c .before .before .before .before .before .before .pre) (atom-read _ _ _ _ (c .before .before .before .before .statement-word .ensures .0) (c .math-word .ensures .0)) (search needs) in
+    let s = sizes-can (c .before .before .before .before .before .pre) (c .math-word .ensures) (search needs) in
     (s .words .room, s .words .small, s .words .row, search needs)
 
 one-variable-requires : tie.Need-one-variable-requires Inv-loop μ-loop
@@ -50,7 +47,7 @@ loop-less : tie.Need-loop-less Inv-loop μ-loop
 loop-less c = search needs
 
 loop-again : tie.Need-loop-again Inv-loop μ-loop
-loop-again c = variables-step (c .before .before .before .before .loop .inv) (atom-read _ _ _ _ (c .before .before .before .before .before .before .statement-word .ensures .0) (c .before .before .math-word .ensures .0)) (search needs) (c .before .symbol-word .ensures .0) (c .one-variable .ensures)
+loop-again c = variables-step (c .before .before .before .before .loop .inv) (c .before .before .math-word .ensures) (search needs) (c .before .symbol-word .ensures .0) (c .one-variable .ensures)
 
 returns : tie.Need-returns Inv-loop μ-loop
 returns c = variables-end (c .before .loop .inv) (search needs)
@@ -62,9 +59,8 @@ count-variables-spec =
     Inv-loop
     μ-loop
     statement-word-requires
-    statement-word-requires-2
     loop-holds
-    add-math-word
+    cast-t9
     math-word-requires
     symbol-word-requires
     one-variable-requires

@@ -15,4 +15,9 @@ returns-2 : tie.Need-returns-2
 returns-2 c = (search needs, rw (ne-eqb _ _ (c .if1 .left)))
 
 pub one-variable-spec : {M : Type 1} → statement M
-one-variable-spec = tie.close (tie.spec cast-if1 returns returns-2)
+one-variable-spec =
+    tie.close
+    (tie.spec
+    cast-if1
+    returns
+    returns-2)

@@ -13,8 +13,8 @@ put-u32-requires c κs = search needs
 put-u32-requires-2 : tie.Need-put-u32-requires-2
 put-u32-requires-2 c κs = search needs
 
-sub-put-u16 : tie.Need-sub-put-u16
-sub-put-u16 c = search needs
+cast-put-u16 : tie.Need-cast-put-u16
+cast-put-u16 c = search needs
 
 put-u16-requires : tie.Need-put-u16-requires
 put-u16-requires c κs = search needs
@@ -23,9 +23,15 @@ same-length : tie.Need-same-length
 same-length c = search needs
 
 returns : tie.Need-returns
-returns c = fragment-put _ _ _ (c .before .before .before .before .before .before .before .before .before .before .put-u32 .ensures) (c .before .before .before .before .before .before .put-u322 .ensures) (c .before .before .put-u16 .ensures)
+returns c = fragment-put _ _ _ (c .before .before .before .before .before .before .before .before .before .before .before .put-u32 .ensures) (c .before .before .before .before .before .before .before .put-u322 .ensures) (c .before .before .put-u16 .ensures)
 
 pub put-fragment-spec : {M : Type 1} → statement M
 put-fragment-spec =
     tie.close
-    (tie.spec put-u32-requires put-u32-requires-2 sub-put-u16 put-u16-requires same-length returns)
+    (tie.spec
+    put-u32-requires
+    put-u32-requires-2
+    cast-put-u16
+    put-u16-requires
+    same-length
+    returns)

@@ -23,6 +23,12 @@ add-t11 c = search needs
 returns : tie.Need-returns
 returns c = symbol-constant (c .before .before .before .before .before .before .pre) (c .before .before .symbol-word .ensures .0) (c .before .before .before .constant-length .ensures) _ (c .before .if1 .taken)
 
+sub-t9 : tie.Need-sub-t9
+sub-t9 c = search needs
+
+cast-t14 : tie.Need-cast-t14
+cast-t14 c = search needs
+
 put-fragment-requires : tie.Need-put-fragment-requires
 put-fragment-requires c κs = search needs
 
@@ -44,6 +50,8 @@ put-symbol-spec =
     cast-if1
     add-t11
     returns
+    sub-t9
+    cast-t14
     put-fragment-requires
     add-t9
     same-length

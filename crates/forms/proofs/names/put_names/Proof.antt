@@ -18,11 +18,14 @@ abbrev μ-loop : tie.MeasureT-loop
 loop-holds : tie.Need-loop-holds Inv-loop μ-loop
 loop-holds c = names-begin _ _ _ _ _ _
 
+cast-t11 : tie.Need-cast-t11 Inv-loop μ-loop
+cast-t11 c = search needs
+
 bucket-word-requires : tie.Need-bucket-word-requires Inv-loop μ-loop
 bucket-word-requires c κs = search needs
 
 put-name-requires : tie.Need-put-name-requires Inv-loop μ-loop
-put-name-requires c κs = (names-can (c .before .before .before .before .before .before .before .pre .0) (search needs) (c .before .bucket-word .ensures .0), omega (arith, c .before .before .before .loop .inv .few, c .before .before .before .before .before .before .before .pre .0 .few, c .before .before .before .before .before .before .before .pre .0 .small, c .before .before .before .before .before .before .before .pre .1))
+put-name-requires c κs = (names-can (c .before .before .before .before .before .before .before .pre .0) (search needs) (c .before .bucket-word .ensures), omega (arith, c .before .before .before .loop .inv .few, c .before .before .before .before .before .before .before .pre .0 .few, c .before .before .before .before .before .before .before .pre .0 .small, c .before .before .before .before .before .before .before .pre .1))
 
 add-k : tie.Need-add-k Inv-loop μ-loop
 add-k c = search needs
@@ -31,7 +34,7 @@ loop-less : tie.Need-loop-less Inv-loop μ-loop
 loop-less c = search needs
 
 loop-again : tie.Need-loop-again Inv-loop μ-loop
-loop-again c = names-step (c .before .before .before .before .before .before .loop .inv) (search needs) (c .before .before .before .before .bucket-word .ensures .0) (c .before .before .put-name .ensures)
+loop-again c = names-step (c .before .before .before .before .before .before .loop .inv) (search needs) (c .before .before .before .before .bucket-word .ensures) (c .before .before .put-name .ensures)
 
 same-length : tie.Need-same-length Inv-loop μ-loop
 same-length c = c .before .loop .inv .wrote .len
@@ -46,6 +49,7 @@ put-names-spec =
     Inv-loop
     μ-loop
     loop-holds
+    cast-t11
     bucket-word-requires
     put-name-requires
     add-k

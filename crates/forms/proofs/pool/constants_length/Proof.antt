@@ -1,5 +1,5 @@
 use Prim.Native.Nat.{_-_}
-use Rattle.forms.proofs.Constants.{atom-read, InvSizes, sizes-begin, sizes-can, sizes-step, sizes-end}
+use Rattle.forms.proofs.Constants.{InvSizes, sizes-begin, sizes-can, sizes-step, sizes-end}
 use borrow.Author.Needs.{needs}
 use Rattle.forms.proofs.pool.constants_length.Statement.{statement}
 use Rattle.forms.proofs.pool.constants_length.Tie as tie
@@ -10,28 +10,25 @@ use Rattle.forms.proofs.words.math_word.Reads as math-word-reads
 use Rattle.forms.proofs.words.statement_word.Reads as statement-word-reads
 
 abbrev Inv-loop : tie.InvT-loop
-Inv-loop work n row first count sum₀ i₀ sum i = InvSizes work n row sum i
+Inv-loop work n row count sum₀ i₀ sum i = InvSizes work n (row .0) sum i
 
 abbrev μ-loop : tie.MeasureT-loop
-μ-loop work n row first count sum₀ i₀ sum i = count - i
+μ-loop work n row count sum₀ i₀ sum i = count - i
 
 statement-word-requires : tie.Need-statement-word-requires Inv-loop μ-loop
 statement-word-requires c κs = search needs
 
-statement-word-requires-2 : tie.Need-statement-word-requires-2 Inv-loop μ-loop
-statement-word-requires-2 c κs = search needs
-
 loop-holds : tie.Need-loop-holds Inv-loop μ-loop
-loop-holds c = sizes-begin (c .before .before .before .pre)
+loop-holds c = sizes-begin (c .before .before .pre)
 
-add-math-word : tie.Need-add-math-word Inv-loop μ-loop
-add-math-word c = search needs
+cast-t9 : tie.Need-cast-t9 Inv-loop μ-loop
+cast-t9 c = search needs
 
 math-word-requires : tie.Need-math-word-requires Inv-loop μ-loop
 math-word-requires c κs = search needs
 
 constant-length-requires : tie.Need-constant-length-requires Inv-loop μ-loop
-constant-length-requires c κs = sizes-can (c .before .before .before .before .before .before .pre) (atom-read _ _ _ _ (c .before .before .before .before .statement-word .ensures .0) (c .math-word .ensures .0)) (search needs)
+constant-length-requires c κs = sizes-can (c .before .before .before .before .before .pre) (c .math-word .ensures) (search needs)
 
 add-sum : tie.Need-add-sum Inv-loop μ-loop
 add-sum c = search needs
@@ -43,7 +40,7 @@ loop-less : tie.Need-loop-less Inv-loop μ-loop
 loop-less c = search needs
 
 loop-again : tie.Need-loop-again Inv-loop μ-loop
-loop-again c = sizes-step (c .before .before .before .loop .inv) (atom-read _ _ _ _ (c .before .before .before .before .before .statement-word .ensures .0) (c .before .math-word .ensures .0)) (search needs) (c .constant-length .ensures)
+loop-again c = sizes-step (c .before .before .before .loop .inv) (c .before .math-word .ensures) (search needs) (c .constant-length .ensures)
 
 returns : tie.Need-returns Inv-loop μ-loop
 returns c = sizes-end (c .before .loop .inv) (search needs)
@@ -55,9 +52,8 @@ constants-length-spec =
     Inv-loop
     μ-loop
     statement-word-requires
-    statement-word-requires-2
     loop-holds
-    add-math-word
+    cast-t9
     math-word-requires
     constant-length-requires
     add-sum

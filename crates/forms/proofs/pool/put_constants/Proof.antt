@@ -1,6 +1,6 @@
 use native.Mathlib.Omega.{arith}
 use Prim.Native.Nat.{_-_}
-use Rattle.forms.proofs.Constants.{atom-read, token-words, token-low, InvConstants, constants-begin, constants-step, constants-end}
+use Rattle.forms.proofs.Constants.{token-words, token-low, InvConstants, constants-begin, constants-step, constants-end}
 use borrow.Author.Needs.{needs}
 use Rattle.forms.proofs.pool.put_constants.Statement.{statement}
 use Rattle.forms.proofs.pool.put_constants.Tie as tie
@@ -11,30 +11,27 @@ use Rattle.forms.proofs.words.math_word.Reads as math-word-reads
 use Rattle.forms.proofs.words.statement_word.Reads as statement-word-reads
 
 abbrev Inv-loop : tie.InvT-loop
-Inv-loop text work n buf₀ at row first count a₀ i₀ buf a i = InvConstants text work buf₀ buf n row at a i
+Inv-loop text work n buf₀ at row count a₀ i₀ buf a i = InvConstants text work buf₀ buf n (row .0) at a i
 
 abbrev μ-loop : tie.MeasureT-loop
-μ-loop text work n buf₀ at row first count a₀ i₀ buf a i = count - i
+μ-loop text work n buf₀ at row count a₀ i₀ buf a i = count - i
 
 statement-word-requires : tie.Need-statement-word-requires Inv-loop μ-loop
 statement-word-requires c κs = search needs
 
-statement-word-requires-2 : tie.Need-statement-word-requires-2 Inv-loop μ-loop
-statement-word-requires-2 c κs = search needs
-
 loop-holds : tie.Need-loop-holds Inv-loop μ-loop
-loop-holds c = constants-begin _ _ (c .before .before .before .before .before .pre .0)
+loop-holds c = constants-begin _ _ (c .before .before .before .before .pre .0)
 
-add-math-word : tie.Need-add-math-word Inv-loop μ-loop
-add-math-word c = search needs
+cast-t12 : tie.Need-cast-t12 Inv-loop μ-loop
+cast-t12 c = search needs
 
 math-word-requires : tie.Need-math-word-requires Inv-loop μ-loop
 math-word-requires c κs = search needs
 
 put-constant-requires : tie.Need-put-constant-requires Inv-loop μ-loop
 put-constant-requires c κs =
-    let e = atom-read _ _ _ _ (c .before .before .before .before .before .statement-word .ensures .0) (c .before .math-word .ensures .0) in
-    (token-words (c .before .before .before .before .before .before .before .before .before .pre .0) e (search needs), token-low (c .before .before .before .before .before .before .before .before .before .pre .0) e (search needs), omega (arith, c .before .before .before .loop .inv .few, c .before .before .before .loop .inv .upto, c .before .before .before .before .before .before .before .before .before .pre .0 .tokens, c .before .before .before .before .before .before .before .before .before .pre .0 .small, c .before .before .before .before .before .before .before .before .before .pre .1))
+    let e = c .before .math-word .ensures in
+    (token-words (c .before .before .before .before .before .before .before .before .pre .0) e (search needs), token-low (c .before .before .before .before .before .before .before .before .pre .0) e (search needs), omega (arith, c .before .before .before .loop .inv .few, c .before .before .before .loop .inv .upto, c .before .before .before .before .before .before .before .before .pre .0 .tokens, c .before .before .before .before .before .before .before .before .pre .0 .small, c .before .before .before .before .before .before .before .before .pre .1))
 
 add-i : tie.Need-add-i Inv-loop μ-loop
 add-i c = search needs
@@ -43,7 +40,7 @@ loop-less : tie.Need-loop-less Inv-loop μ-loop
 loop-less c = search needs
 
 loop-again : tie.Need-loop-again Inv-loop μ-loop
-loop-again c = constants-step (c .before .before .before .before .before .before .loop .inv) (atom-read _ _ _ _ (c .before .before .before .before .before .before .before .before .statement-word .ensures .0) (c .before .before .before .before .math-word .ensures .0)) (search needs) (c .before .before .put-constant .ensures)
+loop-again c = constants-step (c .before .before .before .before .before .before .loop .inv) (c .before .before .before .before .math-word .ensures) (search needs) (c .before .before .put-constant .ensures)
 
 same-length : tie.Need-same-length Inv-loop μ-loop
 same-length c = c .before .loop .inv .wrote .len
@@ -58,9 +55,8 @@ put-constants-spec =
     Inv-loop
     μ-loop
     statement-word-requires
-    statement-word-requires-2
     loop-holds
-    add-math-word
+    cast-t12
     math-word-requires
     put-constant-requires
     add-i

@@ -7,7 +7,7 @@ use Rattle.forms.proofs.pool.put_stack.Tie as tie
 use Rattle.forms.proofs.pool.put_stack.Reads as reads
 use Rattle.forms.proofs.pool.put_stack.Lts as lts
 use Rattle.forms.proofs.pool.put_constants.Reads as put-constants-reads
-use Rattle.forms.proofs.words.statement_word.Reads as statement-word-reads
+use Rattle.forms.proofs.words.essential_word.Reads as essential-word-reads
 
 abbrev Inv-loop : tie.InvT-loop
 Inv-loop text work n buf₀ at es a₀ k₀ buf a k = InvStack text work buf₀ buf n es at a k
@@ -18,11 +18,11 @@ abbrev μ-loop : tie.MeasureT-loop
 loop-holds : tie.Need-loop-holds Inv-loop μ-loop
 loop-holds c = stack-begin _ _ _ _ _ _
 
-statement-word-requires : tie.Need-statement-word-requires Inv-loop μ-loop
-statement-word-requires c κs = search needs
+essential-word-requires : tie.Need-essential-word-requires Inv-loop μ-loop
+essential-word-requires c κs = search needs
 
 put-constants-requires : tie.Need-put-constants-requires Inv-loop μ-loop
-put-constants-requires c κs = (stack-row (c .before .before .before .before .before .before .before .pre .0) (search needs) (c .before .statement-word .ensures .0), omega (arith, stack-place (c .before .before .before .before .before .before .before .pre .0) (search needs) (c .before .statement-word .ensures .0) (c .before .before .before .before .before .before .before .args .at) (c .before .before .before .loop .inv .few), c .before .before .before .before .before .before .before .pre .1))
+put-constants-requires c κs = (stack-row (c .before .before .before .before .before .before .before .pre .0) (search needs) (c .before .essential-word .ensures), omega (arith, stack-place (c .before .before .before .before .before .before .before .pre .0) (search needs) (c .before .essential-word .ensures) (c .before .before .before .before .before .before .before .args .at) (c .before .before .before .loop .inv .few), c .before .before .before .before .before .before .before .pre .1))
 
 add-k : tie.Need-add-k Inv-loop μ-loop
 add-k c = search needs
@@ -31,7 +31,7 @@ loop-less : tie.Need-loop-less Inv-loop μ-loop
 loop-less c = search needs
 
 loop-again : tie.Need-loop-again Inv-loop μ-loop
-loop-again c = stack-step (c .before .before .before .before .before .before .before .before .before .before .pre .0) (c .before .before .before .before .before .before .loop .inv) (search needs) (c .before .before .before .before .statement-word .ensures .0) (c .before .before .put-constants .ensures)
+loop-again c = stack-step (c .before .before .before .before .before .before .before .before .before .before .pre .0) (c .before .before .before .before .before .before .loop .inv) (search needs) (c .before .before .before .before .essential-word .ensures) (c .before .before .put-constants .ensures)
 
 same-length : tie.Need-same-length Inv-loop μ-loop
 same-length c = c .before .loop .inv .wrote .len
@@ -46,7 +46,7 @@ put-stack-spec =
     Inv-loop
     μ-loop
     loop-holds
-    statement-word-requires
+    essential-word-requires
     put-constants-requires
     add-k
     loop-less

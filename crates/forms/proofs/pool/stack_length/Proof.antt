@@ -7,7 +7,7 @@ use Rattle.forms.proofs.pool.stack_length.Tie as tie
 use Rattle.forms.proofs.pool.stack_length.Reads as reads
 use Rattle.forms.proofs.pool.stack_length.Lts as lts
 use Rattle.forms.proofs.pool.constants_length.Reads as constants-length-reads
-use Rattle.forms.proofs.words.statement_word.Reads as statement-word-reads
+use Rattle.forms.proofs.words.essential_word.Reads as essential-word-reads
 
 abbrev Inv-loop : tie.InvT-loop
 Inv-loop work n es sum₀ k₀ sum k = InvSize work n es sum k
@@ -18,14 +18,14 @@ abbrev μ-loop : tie.MeasureT-loop
 loop-holds : tie.Need-loop-holds Inv-loop μ-loop
 loop-holds c = size-begin _ _ _
 
-statement-word-requires : tie.Need-statement-word-requires Inv-loop μ-loop
-statement-word-requires c κs = search needs
+essential-word-requires : tie.Need-essential-word-requires Inv-loop μ-loop
+essential-word-requires c κs = search needs
 
 constants-length-requires : tie.Need-constants-length-requires Inv-loop μ-loop
-constants-length-requires c κs = size-can (c .before .before .before .before .pre) (search needs) (c .statement-word .ensures .0)
+constants-length-requires c κs = size-can (c .before .before .before .before .pre) (search needs) (c .essential-word .ensures)
 
 add-sum : tie.Need-add-sum Inv-loop μ-loop
-add-sum c = omega (arith, stack-place (c .before .before .before .before .before .pre .words) (search needs) (c .before .statement-word .ensures .0) 0 (c .before .before .before .loop .inv .few), c .constants-length .ensures .0, size-can (c .before .before .before .before .before .pre) (search needs) (c .before .statement-word .ensures .0) .words .tokens, c .before .before .before .before .before .pre .words .small)
+add-sum c = omega (arith, stack-place (c .before .before .before .before .before .pre .words) (search needs) (c .before .essential-word .ensures) 0 (c .before .before .before .loop .inv .few), c .constants-length .ensures .0, size-can (c .before .before .before .before .before .pre) (search needs) (c .before .essential-word .ensures) .words .tokens, c .before .before .before .before .before .pre .words .small)
 
 add-k : tie.Need-add-k Inv-loop μ-loop
 add-k c = search needs
@@ -34,7 +34,7 @@ loop-less : tie.Need-loop-less Inv-loop μ-loop
 loop-less c = search needs
 
 loop-again : tie.Need-loop-again Inv-loop μ-loop
-loop-again c = size-step (c .before .before .before .before .before .pre) (c .before .before .before .loop .inv) (search needs) (c .before .statement-word .ensures .0) (c .constants-length .ensures)
+loop-again c = size-step (c .before .before .before .before .before .pre) (c .before .before .before .loop .inv) (search needs) (c .before .essential-word .ensures) (c .constants-length .ensures)
 
 returns : tie.Need-returns Inv-loop μ-loop
 returns c = size-end (c .before .loop .inv) (search needs)
@@ -46,7 +46,7 @@ stack-length-spec =
     Inv-loop
     μ-loop
     loop-holds
-    statement-word-requires
+    essential-word-requires
     constants-length-requires
     add-sum
     add-k

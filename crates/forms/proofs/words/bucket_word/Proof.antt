@@ -1,4 +1,3 @@
-use native.Mathlib.Omega.{arith}
 use mathlib.Core.Path.{ap}
 use lib.ListN.{getD}
 use Rattle.area.specs.Cells.{word}
@@ -9,22 +8,28 @@ use Rattle.forms.proofs.words.bucket_word.Reads as reads
 use Rattle.forms.proofs.words.bucket_word.Lts as lts
 use Rattle.area.proofs.bucket.Reads as bucket-reads
 
+cast-bucket : tie.Need-cast-bucket
+cast-bucket c = search needs
+
 bucket-requires : tie.Need-bucket-requires
 bucket-requires c κs = search needs
 
-mul-result : tie.Need-mul-result
-mul-result c = search needs
+mul-t6 : tie.Need-mul-t6
+mul-t6 c = search needs
 
-shared-slice-read-result : tie.Need-shared-slice-read-result
-shared-slice-read-result c = search needs
-
-cast-result : tie.Need-cast-result
-cast-result c = omega (arith, c .shared-slice-known2 .given (c .before .bucket .result))
+shared-slice-read-t8 : tie.Need-shared-slice-read-t8
+shared-slice-read-t8 c = search needs
 
 returns : tie.Need-returns
 unfolding word
-returns c = (ap (λ i. getD (c .before .before .before .args .work .now) i 0) (c .before .bucket .ensures), omega (arith, c .shared-slice-known2 .given (c .before .bucket .result)))
+returns c = ap (λ i. getD (c .before .before .before .before .args .work .now) i 0) (c .before .bucket .ensures)
 
 pub bucket-word-spec : {M : Type 1} → statement M
 bucket-word-spec =
-    tie.close (tie.spec bucket-requires mul-result shared-slice-read-result cast-result returns)
+    tie.close
+    (tie.spec
+    cast-bucket
+    bucket-requires
+    mul-t6
+    shared-slice-read-t8
+    returns)

@@ -9,6 +9,9 @@ use Rattle.forms.proofs.words.name_word.Reads as reads
 use Rattle.forms.proofs.words.name_word.Lts as lts
 use Rattle.area.proofs.name.Reads as name-reads
 
+cast-name : tie.Need-cast-name
+cast-name c = search needs
+
 name-requires : tie.Need-name-requires
 name-requires c κs = search needs
 
@@ -23,8 +26,15 @@ cast-result c = omega (arith, c .shared-slice-known2 .given (c .before .name .re
 
 returns : tie.Need-returns
 unfolding word
-returns c = (ap (λ i. getD (c .before .before .before .args .work .now) i 0) (c .before .name .ensures), omega (arith, c .shared-slice-known2 .given (c .before .name .result)))
+returns c = (ap (λ i. getD (c .before .before .before .before .args .work .now) i 0) (c .before .name .ensures), omega (arith, c .shared-slice-known2 .given (c .before .name .result)))
 
 pub name-word-spec : {M : Type 1} → statement M
 name-word-spec =
-    tie.close (tie.spec name-requires mul-result shared-slice-read-result cast-result returns)
+    tie.close
+    (tie.spec
+    cast-name
+    name-requires
+    mul-result
+    shared-slice-read-result
+    cast-result
+    returns)

@@ -9,6 +9,9 @@ use Rattle.forms.proofs.words.statement_word.Reads as reads
 use Rattle.forms.proofs.words.statement_word.Lts as lts
 use Rattle.area.proofs.statement.Reads as statement-reads
 
+cast-statement : tie.Need-cast-statement
+cast-statement c = search needs
+
 statement-requires : tie.Need-statement-requires
 statement-requires c κs = search needs
 
@@ -23,8 +26,15 @@ cast-result c = omega (arith, c .shared-slice-known2 .given (c .before .statemen
 
 returns : tie.Need-returns
 unfolding word
-returns c = (ap (λ i. getD (c .before .before .before .args .work .now) i 0) (c .before .statement .ensures), omega (arith, c .shared-slice-known2 .given (c .before .statement .result)))
+returns c = (ap (λ i. getD (c .before .before .before .before .args .work .now) i 0) (c .before .statement .ensures), omega (arith, c .shared-slice-known2 .given (c .before .statement .result)))
 
 pub statement-word-spec : {M : Type 1} → statement M
 statement-word-spec =
-    tie.close (tie.spec statement-requires mul-result shared-slice-read-result cast-result returns)
+    tie.close
+    (tie.spec
+    cast-statement
+    statement-requires
+    mul-result
+    shared-slice-read-result
+    cast-result
+    returns)

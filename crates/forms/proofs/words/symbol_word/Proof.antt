@@ -9,6 +9,9 @@ use Rattle.forms.proofs.words.symbol_word.Reads as reads
 use Rattle.forms.proofs.words.symbol_word.Lts as lts
 use Rattle.area.proofs.symbol.Reads as symbol-reads
 
+cast-symbol : tie.Need-cast-symbol
+cast-symbol c = search needs
+
 symbol-requires : tie.Need-symbol-requires
 symbol-requires c κs = search needs
 
@@ -23,8 +26,15 @@ cast-result c = omega (arith, c .shared-slice-known2 .given (c .before .symbol .
 
 returns : tie.Need-returns
 unfolding word
-returns c = (ap (λ i. getD (c .before .before .before .args .work .now) i 0) (c .before .symbol .ensures), omega (arith, c .shared-slice-known2 .given (c .before .symbol .result)))
+returns c = (ap (λ i. getD (c .before .before .before .before .args .work .now) i 0) (c .before .symbol .ensures), omega (arith, c .shared-slice-known2 .given (c .before .symbol .result)))
 
 pub symbol-word-spec : {M : Type 1} → statement M
 symbol-word-spec =
-    tie.close (tie.spec symbol-requires mul-result shared-slice-read-result cast-result returns)
+    tie.close
+    (tie.spec
+    cast-symbol
+    symbol-requires
+    mul-result
+    shared-slice-read-result
+    cast-result
+    returns)

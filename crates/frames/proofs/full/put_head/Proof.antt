@@ -27,4 +27,9 @@ returns c = head-put (c .before .before .before .before .before .before .before 
 pub put-head-spec : {M : Type 1} → statement M
 put-head-spec =
     tie.close
-    (tie.spec put-front-requires put-names-requires put-pool-requires same-length returns)
+    (tie.spec
+    put-front-requires
+    put-names-requires
+    put-pool-requires
+    same-length
+    returns)

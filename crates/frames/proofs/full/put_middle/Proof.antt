@@ -27,4 +27,9 @@ returns c = middle-put (c .before .before .before .before .before .before .befor
 pub put-middle-spec : {M : Type 1} → statement M
 put-middle-spec =
     tie.close
-    (tie.spec put-hyps-requires stack-length-requires put-expression-requires same-length returns)
+    (tie.spec
+    put-hyps-requires
+    stack-length-requires
+    put-expression-requires
+    same-length
+    returns)

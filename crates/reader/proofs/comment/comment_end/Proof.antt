@@ -29,8 +29,8 @@ returns c = loop-none _ _ (c .before .before .loop .inv .1) (c .before .before .
 closes-at-requires : tie.Need-closes-at-requires Inv-loop μ-loop
 closes-at-requires c κs = search needs
 
-add-t9 : tie.Need-add-t9 Inv-loop μ-loop
-add-t9 c = search needs
+add-t10 : tie.Need-add-t10 Inv-loop μ-loop
+add-t10 c = search needs
 
 returns-2 : tie.Need-returns-2 Inv-loop μ-loop
 returns-2 c = loop-some _ _ (c .before .before .before .before .loop .inv .1) (c .before .before .before .before .loop .inv .0) (c .before .before .before .next-dollar .ensures) (search needs) (sym (c .before .closes-at .ensures) ∙ c .if2 .taken)
@@ -54,7 +54,7 @@ comment-end-spec =
     next-dollar-requires
     returns
     closes-at-requires
-    add-t9
+    add-t10
     returns-2
     add-i
     loop-less

@@ -15,7 +15,7 @@ use Rattle.token.proofs.cursor.Cursor.next.Reads as next-reads
 use Rattle.token.proofs.cursor.is_key.Reads as is-key-reads
 
 -- own --
-took : (c : tie.After-known-told) → Read (c .before .before .before .before .before .args .text .now) (c .before .before .before .before .before .args .at) (c .before .x .given .0 .0) (c .before .x .given .0 .1 .0)
+took : (c : tie.After-known-told) → Read (c .before .before .before .before .before .args .text .now) (c .before .before .before .before .before .args .c .at) (c .before .x .given .0 .0) (c .before .x .given .0 .1 .0)
 took c = read-token _ _ _ _ (sym (c .before .x .given .1) ∙ c .before .before .before .next .ensures)
 
 -- end own --
@@ -52,7 +52,7 @@ unfolding key
 returns-3 c = look-plain (took (c .before .before .before .before .before)) (sym (c .before .is-key .ensures) ∙ not-true _ (c .if2 .taken))
 
 comment-end-requires : tie.Need-comment-end-requires
-comment-end-requires c κs = (c .before .before .before .before .before .before .before .before .before .before .pre, took (c .before .before .before .before .before) .whole .within)
+comment-end-requires c κs = (c .before .before .before .before .before .before .before .before .before .before .pre, rw (took (c .before .before .before .before .before) .stands) (took (c .before .before .before .before .before) .whole .within))
 
 enum-known-after : tie.Need-enum-known-after
 enum-known-after c = search needs

@@ -14,10 +14,10 @@ use Rattle.reader.proofs.comment.next_visible.Lts as lts
 use Rattle.reader.proofs.comment.look_at.Reads as look-at-reads
 
 abbrev Inv-loop : tie.InvT-loop
-Inv-loop table text at i₀ i = Passed text at i outside [] outside × (at ≤ i)
+Inv-loop table text i₀ i = Passed text (i₀ .at) (i .at) outside [] outside × (i₀ .at ≤ i .at)
 
 abbrev μ-loop : tie.MeasureT-loop
-μ-loop table text at i₀ i = length (tokens-from text i)
+μ-loop table text i₀ i = length (tokens-from text (i .at))
 
 loop-holds : tie.Need-loop-holds Inv-loop μ-loop
 loop-holds c = (passed-none _ _ _, search needs)
@@ -31,15 +31,15 @@ enum-known-x c = search needs
 returns : tie.Need-returns Inv-loop μ-loop
 returns c = shows-after (c .before .before .before .before .loop .inv .0) (c .before .before .before .before .loop .inv .1) (rw (c .before .x .given .1) at (c .before .before .before .look-at .ensures))
 
-enum-known-e : tie.Need-enum-known-e Inv-loop μ-loop
-enum-known-e c = search needs
+enum-known-d : tie.Need-enum-known-d Inv-loop μ-loop
+enum-known-d c = search needs
 
 loop-less : tie.Need-loop-less Inv-loop μ-loop
-loop-less c = (rw (c .before .e .given .1) at (c .before .before .before .look-at .ensures)) .1
+loop-less c = (rw (c .before .d .given .1) at (c .before .before .before .look-at .ensures)) .1
 
 loop-again : tie.Need-loop-again Inv-loop μ-loop
 loop-again c =
-    let h = rw (c .before .e .given .1) at (c .before .before .before .look-at .ensures) in
+    let h = rw (c .before .d .given .1) at (c .before .before .before .look-at .ensures) in
     (passed-then (c .before .before .before .before .loop .inv .0) (h .0), omega (arith, c .before .before .before .before .loop .inv .1, h .2))
 
 enum-known-p : tie.Need-enum-known-p Inv-loop μ-loop
@@ -64,7 +64,7 @@ next-visible-spec =
     look-at-requires
     enum-known-x
     returns
-    enum-known-e
+    enum-known-d
     loop-less
     loop-again
     enum-known-p

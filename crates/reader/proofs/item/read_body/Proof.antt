@@ -31,11 +31,11 @@ close-run-requires c κs = search needs
 enum-known-x : tie.Need-enum-known-x
 enum-known-x c = search needs
 
-enum-known-x-2 : tie.Need-enum-known-x-2
-enum-known-x-2 c = search needs
+enum-known-d : tie.Need-enum-known-d
+enum-known-d c = search needs
 
 read-rest-requires : tie.Need-read-rest-requires
-read-rest-requires c κs = (c .before .before .before .before .before .before .before .before .before .before .before .before .before .before .before .pre .0, body-proof (c .before .before .before .before .before .before .before .before .before .before .before .before .before .before .before .pre .1) (rw (c .before .before .before .before .before .before .before .before .before .before .before .most-of .ensures) at (c .before .before .before .before .before .before .before .before .before .before .read-run .ensures)) _ (sym (c .before .before .before .x2 .given .1) ∙ (rw (c .before .before .before .before .before .before .before .least-of .ensures, c .before .before .before .before .before .before .closing-of .ensures) at (c .before .before .before .before .before .close-run .ensures))) (c .before .if1 .taken))
+read-rest-requires c κs = (c .before .before .before .before .before .before .before .before .before .before .before .before .before .before .before .pre .0, body-proof (c .before .before .before .before .before .before .before .before .before .before .before .before .before .before .before .pre .1) (rw (c .before .before .before .before .before .before .before .before .before .before .before .most-of .ensures) at (c .before .before .before .before .before .before .before .before .before .before .read-run .ensures)) _ (sym (c .before .before .before .d .given .1) ∙ (rw (c .before .before .before .before .before .before .before .least-of .ensures, c .before .before .before .before .before .before .closing-of .ensures) at (c .before .before .before .before .before .close-run .ensures))) (c .before .if1 .taken))
 
 same-length : tie.Need-same-length
 same-length c = search needs
@@ -47,7 +47,7 @@ keep-requires : tie.Need-keep-requires
 keep-requires c κs =
     let b = c .before .before .before .before .before .before .before .before .before .before .before .before .before .before .before .pre .1 in
     let r = rw (c .before .before .before .before .before .before .before .before .before .before .before .most-of .ensures) at (c .before .before .before .before .before .before .before .before .before .before .read-run .ensures) in
-    let q = sym (c .before .before .before .x2 .given .1) ∙ (rw (c .before .before .before .before .before .before .before .least-of .ensures, c .before .before .before .before .before .before .closing-of .ensures) at (c .before .before .before .before .before .close-run .ensures)) in
+    let q = sym (c .before .before .before .d .given .1) ∙ (rw (c .before .before .before .before .before .before .before .least-of .ensures, c .before .before .before .before .before .before .closing-of .ensures) at (c .before .before .before .before .before .close-run .ensures)) in
     row-room b (r .run) (body-some b r _ q) (body-plain b r _ q (c .before .if1 .left)) (search needs)
 
 same-length-2 : tie.Need-same-length-2
@@ -63,7 +63,7 @@ returns-3 : tie.Need-returns-3
 returns-3 c =
     let b = c .before .before .before .before .before .before .before .before .before .before .before .before .before .before .before .before .before .before .pre .1 in
     let r = rw (c .before .before .before .before .before .before .before .before .before .before .before .before .before .before .most-of .ensures) at (c .before .before .before .before .before .before .before .before .before .before .before .before .before .read-run .ensures) in
-    let q = sym (c .before .before .before .before .before .before .x2 .given .1) ∙ (rw (c .before .before .before .before .before .before .before .before .before .before .least-of .ensures, c .before .before .before .before .before .before .before .before .before .closing-of .ensures) at (c .before .before .before .before .before .before .before .before .close-run .ensures)) in
+    let q = sym (c .before .before .before .before .before .before .d .given .1) ∙ (rw (c .before .before .before .before .before .before .before .before .before .before .least-of .ensures, c .before .before .before .before .before .before .before .before .before .closing-of .ensures) at (c .before .before .before .before .before .before .before .before .close-run .ensures)) in
     kept-held b (r .run) (body-some b r _ q) _ (body-plain b r _ q (c .before .before .before .before .if1 .left)) (search needs) (c .before .before .keep .ensures .0) (c .before .before .keep .ensures .1) (body-less b r _ q)
 
 pub read-body-spec : {M : Type 1} → statement M
@@ -76,7 +76,7 @@ read-body-spec =
     closing-of-requires
     close-run-requires
     enum-known-x
-    enum-known-x-2
+    enum-known-d
     read-rest-requires
     same-length
     returns

@@ -11,7 +11,7 @@ use Rattle.reader.proofs.item.read_body.Reads as read-body-reads
 use Rattle.reader.proofs.kind.label_code.Reads as label-code-reads
 
 -- own --
-shows : (c : tie.After-known-told2) → Shows (c .before .before .before .before .before .before .args .text .now) (c .before .before .before .before .before .before .args .x .stop) (c .before .y .given .0 .0)
+shows : (c : tie.After-known-told2) → Shows (c .before .before .before .before .before .before .args .text .now) (c .before .before .before .before .before .before .args .c .at) (c .before .y .given .0 .0) (c .before .y .given .0 .1 .0)
 shows c = rw (c .before .y .given .1) at (c .before .before .before .next-visible .ensures)
 
 -- end own --
@@ -34,8 +34,8 @@ label-code-requires c κs = (omega (arith, shows c .whole .some), omega (arith, 
 returns : tie.Need-returns
 returns c = label-bad (c .before .before .before .before .before .before .before .before .pre .1) (c .before .before .before .before .before .before .before .before .pre .2) (c .before .before .before .before .before .before .before .before .pre .3) (shows (c .before .before)) (c .before .label-code .ensures) (c .if1 .taken)
 
-sub-t23 : tie.Need-sub-t23
-sub-t23 c = omega (arith, c .before .before .before .before .before .before .before .before .pre .2 .whole .some)
+sub-t25 : tie.Need-sub-t25
+sub-t25 c = omega (arith, c .before .before .before .before .before .before .before .before .pre .2 .whole .some)
 
 read-body-requires : tie.Need-read-body-requires
 read-body-requires c κs = (c .before .before .before .before .before .before .before .before .before .pre .0, label-begun (c .before .before .before .before .before .before .before .before .before .pre .1) (c .before .before .before .before .before .before .before .before .before .pre .2) (c .before .before .before .before .before .before .before .before .before .pre .3) (shows (c .before .before .before)) (c .before .before .label-code .ensures) (c .before .if1 .left))
@@ -62,7 +62,7 @@ read-labelled-spec =
     enum-known-y
     label-code-requires
     returns
-    sub-t23
+    sub-t25
     read-body-requires
     returns-2
     returns-3

@@ -34,7 +34,7 @@ same-length : tie.Need-same-length
 same-length c = search needs
 
 returns-3 : tie.Need-returns-3
-returns-3 c = taken (c .before .before .before .before .before .before .before .before .before .before .args .text .now) (c .before .before .before .before .before .before .before .before .before .before .args .work .now) (c .before .before .read-from .last .1 .1 .0) (c .before .before .before .before .before .before .before .before .before .before .args .n) (c .before .before .before .before .before .before .before .before .before .before .args .s .at) (c .before .before .read-from .result) (c .before .before .read-from .ensures)
+returns-3 c = taken (c .before .before .before .before .before .before .before .before .before .before .args .text .now) (c .before .before .before .before .before .before .before .before .before .before .args .work .now) (c .before .before .read-from .last .1 .1 .0) (c .before .before .before .before .before .before .before .before .before .before .args .n) (c .before .before .before .before .before .before .before .before .before .before .args .s .cursor .at) (c .before .before .read-from .result) (c .before .before .read-from .ensures)
 
 pub read-one-spec : {M : Type 1} → statement M
 read-one-spec =

@@ -18,11 +18,11 @@ close-run-requires c κs = search needs
 enum-known-x : tie.Need-enum-known-x
 enum-known-x c = search needs
 
-enum-known-x-2 : tie.Need-enum-known-x-2
-enum-known-x-2 c = search needs
+enum-known-d : tie.Need-enum-known-d
+enum-known-d c = search needs
 
 keep-requires : tie.Need-keep-requires
-keep-requires c κs = proof-room (c .before .before .before .before .before .before .before .before .pre .1) (c .before .before .before .before .before .read-proof .ensures) _ (sym (c .before .before .x2 .given .1) ∙ c .before .before .before .before .close-run .ensures)
+keep-requires c κs = proof-room (c .before .before .before .before .before .before .before .before .pre .1) (c .before .before .before .before .before .read-proof .ensures) _ (sym (c .before .before .d .given .1) ∙ c .before .before .before .before .close-run .ensures)
 
 returns : tie.Need-returns
 returns c = proof-refused (c .before .before .before .before .before .before .before .pre .1) (c .before .before .before .before .read-proof .ensures) _ (sym (c .before .x .given .1) ∙ c .before .before .before .close-run .ensures)
@@ -31,7 +31,7 @@ same-length : tie.Need-same-length
 same-length c = search needs
 
 returns-2 : tie.Need-returns-2
-returns-2 c = proof-held (c .before .before .before .before .before .before .before .before .before .before .before .pre .1) (c .before .before .before .before .before .before .before .before .read-proof .ensures) _ (sym (c .before .before .before .before .before .x2 .given .1) ∙ c .before .before .before .before .before .before .before .close-run .ensures) (c .before .before .keep .ensures .0) (c .before .before .keep .ensures .1)
+returns-2 c = proof-held (c .before .before .before .before .before .before .before .before .before .before .before .pre .1) (c .before .before .before .before .before .before .before .before .read-proof .ensures) _ (sym (c .before .before .before .before .before .d .given .1) ∙ c .before .before .before .before .before .before .before .close-run .ensures) (c .before .before .keep .ensures .0) (c .before .before .keep .ensures .1)
 
 pub read-rest-spec : {M : Type 1} → statement M
 read-rest-spec =
@@ -40,7 +40,7 @@ read-rest-spec =
     read-proof-requires
     close-run-requires
     enum-known-x
-    enum-known-x-2
+    enum-known-d
     keep-requires
     returns
     same-length

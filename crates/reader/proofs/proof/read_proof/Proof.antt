@@ -4,7 +4,7 @@ use borrow.Author.Tests.{le-leb}
 use Rattle.token.specs.Words.{tokens-from}
 use Rattle.reader.specs.Passed.{Shows}
 use Rattle.reader.specs.Runs.{Proving}
-use Rattle.reader.proofs.Passes.{passed-few, passed-shows}
+use Rattle.reader.proofs.Passes.{passed-few, shows-within}
 use Rattle.reader.proofs.Runs.{proving-start, proving-more, proving-on, not-token, not-math}
 use borrow.Author.Needs.{needs}
 use Rattle.reader.proofs.proof.read_proof.Statement.{statement}
@@ -15,13 +15,13 @@ use Rattle.reader.proofs.comment.next_visible.Reads as next-visible-rea
 use Rattle.reader.proofs.proof.past_math.Reads as past-math-reads
 
 abbrev Inv-loop : tie.InvT-loop
-Inv-loop table text at stop₀ some₀ stop some = Proving text at stop some
+Inv-loop table text stop₀ some₀ stop some = Proving text (stop₀ .at) (stop .at) some
 
 abbrev μ-loop : tie.MeasureT-loop
-μ-loop table text at stop₀ some₀ stop some = length (tokens-from text stop)
+μ-loop table text stop₀ some₀ stop some = length (tokens-from text (stop .at))
 
 -- own --
-shows : (c : tie.After-known-told Inv-loop μ-loop) → Shows (c .before .before .before .before .before .before .args .text .now) (c .before .before .before .before .loop .stop) (c .before .after .given .0 .0)
+shows : (c : tie.After-known-told Inv-loop μ-loop) → Shows (c .before .before .before .before .before .before .args .text .now) (c .before .before .before .before .loop .stop .at) (c .before .after .given .0 .0) (c .before .after .given .0 .1 .0)
 shows c = rw (c .before .after .given .1) at (c .before .before .before .next-visible .ensures)
 
 -- end own --
@@ -42,10 +42,10 @@ returns-2 : tie.Need-returns-2 Inv-loop μ-loop
 returns-2 c = record { run = c .before .before .before .before .before .before .loop .inv; after = shows (c .before .before); ends = not-math (shows (c .before .before)) (c .if1 .taken) }
 
 past-math-requires : tie.Need-past-math-requires Inv-loop μ-loop
-past-math-requires c κs = (c .before .before .before .before .before .before .before .before .pre, shows (c .before .before) .whole .within)
+past-math-requires c κs = (c .before .before .before .before .before .before .before .before .pre, shows-within (shows (c .before .before)))
 
 loop-less : tie.Need-loop-less Inv-loop μ-loop
-loop-less c = omega (arith, passed-few (passed-shows (shows (c .before .before .before))), passed-few (c .past-math .ensures .passed))
+loop-less c = omega (arith, passed-few (shows (c .before .before .before) .passed), passed-few (c .past-math .ensures .passed))
 
 loop-again : tie.Need-loop-again Inv-loop μ-loop
 loop-again c = proving-on (proving-more (c .before .before .before .before .before .before .before .loop .inv) (shows (c .before .before .before)) (le-leb 3 _ (c .before .if1 .left))) (c .past-math .ensures)

@@ -11,7 +11,7 @@ use Rattle.reader.proofs.run.close_run.Lts as lts
 use Rattle.token.proofs.cursor.is_key.Reads as is-key-reads
 
 -- own --
-shows : (c : tie.After-known-told2) → Shows (c .before .before .before .before .args .text .now) (c .before .before .before .before .args .run .stop) (c .before .after2 .given .0 .0)
+shows : (c : tie.After-known-told2) → Shows (c .before .before .before .before .args .text .now) (c .before .before .before .before .args .run .stop .at) (c .before .after2 .given .0 .0) (c .before .after2 .given .0 .1 .0)
 shows c = rw (c .before .after2 .given .1) at (c .before .before .before .before .pre)
 
 -- end own --

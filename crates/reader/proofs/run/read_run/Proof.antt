@@ -5,7 +5,7 @@ use lib.ListN.{length, set}
 use Rattle.token.specs.Words.{tokens-from}
 use Rattle.reader.specs.Passed.{Shows}
 use Rattle.reader.specs.Runs.{Running}
-use Rattle.reader.proofs.Passes.{passed-few, passed-shows}
+use Rattle.reader.proofs.Passes.{passed-few}
 use Rattle.reader.proofs.Runs.{running-start, running-more, running-fits, not-token, not-taken, and-left}
 use borrow.Author.Tests.{not-true, not-false}
 use borrow.Author.Needs.{needs}
@@ -18,13 +18,13 @@ use Rattle.reader.proofs.comment.next_visible.Reads as next-visible-rea
 use Rattle.reader.proofs.run.takes.Reads as takes-reads
 
 abbrev Inv-loop : tie.InvT-loop
-Inv-loop table text work₀ n at most first stop₀ count₀ work stop count = Running text work₀ work n at most first stop count
+Inv-loop table text work₀ n most first stop₀ count₀ work stop count = Running text work₀ work n (stop₀ .at) most first (stop .at) count
 
 abbrev μ-loop : tie.MeasureT-loop
-μ-loop table text work₀ n at most first stop₀ count₀ work stop count = length (tokens-from text stop)
+μ-loop table text work₀ n most first stop₀ count₀ work stop count = length (tokens-from text (stop .at))
 
 -- own --
-shows : (c : tie.After-known-told Inv-loop μ-loop) → Shows (c .before .before .before .before .before .before .before .args .text .now) (c .before .before .before .before .loop .stop) (c .before .after .given .0 .0)
+shows : (c : tie.After-known-told Inv-loop μ-loop) → Shows (c .before .before .before .before .before .before .before .args .text .now) (c .before .before .before .before .loop .stop .at) (c .before .after .given .0 .0) (c .before .after .given .0 .1 .0)
 shows c = rw (c .before .after .given .1) at (c .before .before .before .next-visible .ensures)
 
 -- end own --
@@ -72,7 +72,7 @@ add-count : tie.Need-add-count Inv-loop μ-loop
 add-count c = let f = running-fits (c .before .before .before .before .before .before .before .before .before .before .before .pre .1) (c .before .before .before .before .before .before .before .before .loop .inv) (shows (c .before .before .before .before)) in omega (arith, c .before .before .before .before .before .before .before .before .before .before .before .pre .1 .small)
 
 loop-less : tie.Need-loop-less Inv-loop μ-loop
-loop-less c = omega (arith, passed-few (passed-shows (shows (c .before .before .before .before))))
+loop-less c = omega (arith, passed-few (shows (c .before .before .before .before) .passed))
 
 loop-again : tie.Need-loop-again Inv-loop μ-loop
 loop-again c = running-more (c .before .before .before .before .before .before .before .before .before .before .before .pre .1) (c .before .before .before .before .before .before .before .before .loop .inv) (shows (c .before .before .before .before)) (sym (c .before .before .before .takes .ensures) ∙ not-false _ (c .before .before .if1 .left)) (ap (λ (i : ℕ). set (c .before .before .before .before .before .before .before .before .loop .work) i (c .before .before .before .before .before .after .given .0 .0 .start)) (c .before .math .ensures))

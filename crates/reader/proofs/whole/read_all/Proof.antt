@@ -14,7 +14,7 @@ abbrev Inv-loop : tie.InvT-loop
 Inv-loop table text work₀ n s₀ work s = Held text work n s × (length work ≡ length work₀)
 
 abbrev μ-loop : tie.MeasureT-loop
-μ-loop table text work₀ n s₀ work s = length (tokens-from text (s .at))
+μ-loop table text work₀ n s₀ work s = length (tokens-from text (s .cursor .at))
 
 loop-holds : tie.Need-loop-holds Inv-loop μ-loop
 loop-holds c = (held-start (c .before .before .pre .1), refl)

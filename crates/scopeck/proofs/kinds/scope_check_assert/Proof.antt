@@ -1,6 +1,7 @@
+use mathlib.Core.Path.{refl}
 use native.Mathlib.Omega.{arith}
-use Rattle.scopeck.proofs.Ready.{row-room, walk-of, floats-of, can-labelled}
-use Rattle.scopeck.proofs.Labelled.{later-bearer, asserted}
+use Rattle.scopeck.proofs.Ready.{row-room, can-labelled, part-counted, walk-eap}
+use Rattle.scopeck.proofs.Labelled.{borne-at, later-bearer, asserted}
 use borrow.Author.Needs.{needs}
 use Rattle.scopeck.proofs.kinds.scope_check_assert.Statement.{statement}
 use Rattle.scopeck.proofs.kinds.scope_check_assert.Tie as tie
@@ -13,10 +14,10 @@ use Rattle.scopeck.proofs.rows.move_to.Reads as move-to-reads
 use Rattle.scopeck.proofs.rows.read_row.Reads as read-row-reads
 
 read-row-requires : tie.Need-read-row-requires
-read-row-requires c κs = (c .before .before .pre .0 .holds .room, row-room (c .before .before .pre .0 .holds))
+read-row-requires c κs = (c .before .before .before .pre .0 .holds .room, row-room (c .before .before .before .pre .0 .holds))
 
 check-label-dup-requires : tie.Need-check-label-dup-requires
-check-label-dup-requires c κs = let q = can-labelled (c .before .before .before .pre .0 .holds) (c .read-row .ensures) (omega (arith, c .before .before .before .pre .1)) in (q .room, q .atom)
+check-label-dup-requires c κs = let b = c .before .before .before .before .pre .0 .holds in let q = can-labelled b (c .read-row .ensures) (omega (arith, c .before .before .before .before .pre .1)) in (q .room, q .atom, borne-at (c .read-row .ensures) b (omega (arith, c .before .before .before .before .pre .1)))
 
 enum-told : tie.Need-enum-told
 enum-told c = search needs
@@ -25,7 +26,7 @@ enum-told-2 : tie.Need-enum-told-2
 enum-told-2 c = search needs
 
 check-label-requires : tie.Need-check-label-requires
-check-label-requires c κs = can-labelled (c .before .before .before .before .before .before .before .pre .0 .holds) (c .before .before .before .before .read-row .ensures) (omega (arith, c .before .before .before .before .before .before .before .pre .1))
+check-label-requires c κs = can-labelled (c .before .before .before .before .before .before .before .before .pre .0 .holds) (c .before .before .before .before .read-row .ensures) (omega (arith, c .before .before .before .before .before .before .before .before .pre .1))
 
 move-to-requires : tie.Need-move-to-requires
 move-to-requires c κs = search needs
@@ -34,10 +35,10 @@ same-length : tie.Need-same-length
 same-length c = search needs
 
 returns : tie.Need-returns
-returns c = later-bearer (c .before .before .before .before .before .before .before .before .read-row .ensures) (c .move-to .ensures) (omega (arith, c .before .before .before .before .before .before .before .before .before .before .before .pre .1)) (rw (c .before .before .before .before .before .enum-told2 .given .1) at (c .before .before .before .before .before .before .before .check-label-dup .ensures)) (c .before .before .before .check-label .ensures)
+returns c = later-bearer (c .before .before .before .before .before .before .before .before .read-row .ensures) (c .move-to .ensures) (omega (arith, c .before .before .before .before .before .before .before .before .before .before .before .before .pre .1)) (rw (c .before .before .before .before .before .enum-told2 .given .1) at (c .before .before .before .before .before .before .before .check-label-dup .ensures)) (c .before .before .before .check-label .ensures)
 
 check-eap-requires : tie.Need-check-eap-requires
-check-eap-requires c κs = (walk-of (c .before .before .before .before .before .before .before .pre .0 .holds) (c .before .before .before .before .read-row .ensures), floats-of (c .before .before .before .before .before .before .before .pre .0 .holds) (c .before .before .before .before .read-row .ensures))
+check-eap-requires c κs = let b = c .before .before .before .before .before .before .before .before .pre .0 in walk-eap (b .holds) (c .before .before .before .before .read-row .ensures) (b .part) refl
 
 move-to-requires-2 : tie.Need-move-to-requires-2
 move-to-requires-2 c κs = search needs
@@ -46,7 +47,7 @@ same-length-2 : tie.Need-same-length-2
 same-length-2 c = search needs
 
 returns-2 : tie.Need-returns-2
-returns-2 c = asserted (c .before .before .before .before .before .before .before .before .read-row .ensures) (c .before .before .before .check-eap .ensures) (c .move-to2 .ensures) (c .before .before .before .before .before .before .before .before .before .before .before .pre .1) (rw (c .before .before .before .before .before .enum-told .given .1) at (c .before .before .before .before .before .before .before .check-label-dup .ensures))
+returns-2 c = asserted (c .before .before .before .before .before .before .before .before .read-row .ensures) (rw (part-counted (c .before .before .before .before .before .before .before .before .before .before .before .before .pre .0 .holds) (c .before .before .before .before .before .before .before .before .read-row .ensures) (c .before .before .before .before .before .before .before .before .before .before .before .before .pre .0 .part) refl) at (c .before .before .before .check-eap .ensures)) (c .move-to2 .ensures) (c .before .before .before .before .before .before .before .before .before .before .before .before .pre .1) (rw (c .before .before .before .before .before .enum-told .given .1) at (c .before .before .before .before .before .before .before .check-label-dup .ensures))
 
 pub scope-check-assert-spec : {M : Type 1} → statement M
 scope-check-assert-spec =

@@ -1,24 +1,37 @@
-use mathlib.Core.Path.{sym, _∙_}
 use native.Mathlib.Omega.{arith}
 use Rattle.scopeck.proofs.Ready.{row-room}
-use Rattle.scopeck.proofs.Whole.{some-ready, text-all}
+use Rattle.scopeck.proofs.Whole.{part-is, some-part, text-part}
 use borrow.Author.Needs.{needs}
 use Rattle.scopeck.proofs.statements.check_kind.Statement.{statement}
 use Rattle.scopeck.proofs.statements.check_kind.Tie as tie
 use Rattle.scopeck.proofs.statements.check_kind.Reads as reads
 use Rattle.scopeck.proofs.statements.check_kind.Lts as lts
-use Rattle.scopeck.proofs.statements.check_declaration.Reads as check-declaration-reads
-use Rattle.scopeck.proofs.kinds.scope_check_assert.Reads as scope-check-assert-reads
-use Rattle.scopeck.proofs.kinds.scope_check_dv.Reads as scope-check-dv-reads
-use Rattle.scopeck.proofs.kinds.scope_check_essential.Reads as scope-check-essential-reads
-use Rattle.scopeck.proofs.kinds.scope_check_float.Reads as scope-check-float-reads
+use Rattle.scopeck.proofs.statements.check_part.Reads as check-part-reads
 use Rattle.slots.proofs.cells.of_statement.Reads as of-statement-reads
 
 of-statement-requires : tie.Need-of-statement-requires
 of-statement-requires c κs = let b = c .before .before .before .before .pre .holds in (b .room, row-room b, omega arith)
 
-check-declaration-requires : tie.Need-check-declaration-requires
-check-declaration-requires c κs = (c .before .before .before .before .before .before .before .before .pre, omega (arith, c .before .before .before .of-statement .ensures, c .before .before .if1 .taken))
+cast-from : tie.Need-cast-from
+cast-from c = search needs
+
+of-statement-requires-2 : tie.Need-of-statement-requires-2
+of-statement-requires-2 c κs = let b = c .before .before .before .before .before .before .pre .holds in (b .room, row-room b, omega arith)
+
+cast-to : tie.Need-cast-to
+cast-to c = search needs
+
+sub-check-part : tie.Need-sub-check-part
+sub-check-part c = let b = c .before .before .before .before .before .before .before .pre .holds in omega (arith, c .before .before .of-statement .ensures, c .of-statement2 .ensures, b .named .shape .from-to (c .before .before .before .before .before .before .before .args .row) (b .inside))
+
+part-check-part-start : tie.Need-part-check-part-start
+part-check-part-start c = let b = c .before .before .before .before .before .before .before .pre .holds in omega (arith, c .before .before .of-statement .ensures, c .of-statement2 .ensures, b .named .shape .from-to (c .before .before .before .before .before .before .before .args .row) (b .inside))
+
+part-check-part-end : tie.Need-part-check-part-end
+part-check-part-end c = let b = c .before .before .before .before .before .before .before .pre .holds in omega (arith, c .of-statement2 .ensures, b .named .shape .within (c .before .before .before .before .before .before .before .args .row) (b .inside))
+
+check-part-requires : tie.Need-check-part-requires
+check-part-requires c κs = some-part (c .before .before .before .before .before .before .before .before .before .before .pre) (part-is _ _ _ (c .before .before .before .before .before .of-statement .ensures) (c .before .before .before .of-statement2 .ensures))
 
 same-length : tie.Need-same-length
 same-length c = search needs
@@ -27,78 +40,20 @@ same-length-2 : tie.Need-same-length-2
 same-length-2 c = search needs
 
 returns : tie.Need-returns
-returns c = c .before .before .before .before .check-declaration .ensures
-
-scope-check-dv-requires : tie.Need-scope-check-dv-requires
-scope-check-dv-requires c κs = (some-ready (c .before .before .before .before .before .before .before .before .before .pre), sym (c .before .before .before .before .of-statement .ensures) ∙ c .before .before .if2 .taken)
-
-same-length-3 : tie.Need-same-length-3
-same-length-3 c = search needs
-
-same-length-4 : tie.Need-same-length-4
-same-length-4 c = search needs
-
-returns-2 : tie.Need-returns-2
-returns-2 c = text-all (c .before .before .before .before .scope-check-dv .ensures)
-
-scope-check-float-requires : tie.Need-scope-check-float-requires
-scope-check-float-requires c κs = (some-ready (c .before .before .before .before .before .before .before .before .before .before .pre), sym (c .before .before .before .before .before .of-statement .ensures) ∙ c .before .before .if3 .taken)
-
-same-length-5 : tie.Need-same-length-5
-same-length-5 c = search needs
-
-same-length-6 : tie.Need-same-length-6
-same-length-6 c = search needs
-
-returns-3 : tie.Need-returns-3
-returns-3 c = text-all (c .before .before .before .before .scope-check-float .ensures)
-
-scope-check-essential-requires : tie.Need-scope-check-essential-requires
-scope-check-essential-requires c κs = (some-ready (c .before .before .before .before .before .before .before .before .before .before .before .pre), sym (c .before .before .before .before .before .before .of-statement .ensures) ∙ c .before .before .if4 .taken)
-
-same-length-7 : tie.Need-same-length-7
-same-length-7 c = search needs
-
-same-length-8 : tie.Need-same-length-8
-same-length-8 c = search needs
-
-returns-4 : tie.Need-returns-4
-returns-4 c = text-all (c .before .before .before .before .scope-check-essential .ensures)
-
-scope-check-assert-requires : tie.Need-scope-check-assert-requires
-scope-check-assert-requires c κs = (some-ready (c .before .before .before .before .before .before .before .before .before .before .before .pre), omega (arith, c .before .before .before .before .before .before .of-statement .ensures, c .before .before .before .before .before .if1 .left, c .before .before .before .before .if2 .left, c .before .before .before .if3 .left, c .before .before .if4 .left))
-
-same-length-9 : tie.Need-same-length-9
-same-length-9 c = search needs
-
-same-length-10 : tie.Need-same-length-10
-same-length-10 c = search needs
-
-returns-5 : tie.Need-returns-5
-returns-5 c = text-all (c .before .before .scope-check-assert .ensures)
+returns c = text-part (part-is _ _ _ (c .before .before .before .before .before .before .before .before .before .before .of-statement .ensures) (c .before .before .before .before .before .before .before .before .of-statement2 .ensures)) (c .before .before .before .before .check-part .ensures)
 
 pub check-kind-spec : {M : Type 1} → statement M
 check-kind-spec =
     tie.close
     (tie.spec
     of-statement-requires
-    check-declaration-requires
+    cast-from
+    of-statement-requires-2
+    cast-to
+    sub-check-part
+    part-check-part-start
+    part-check-part-end
+    check-part-requires
     same-length
     same-length-2
-    returns
-    scope-check-dv-requires
-    same-length-3
-    same-length-4
-    returns-2
-    scope-check-float-requires
-    same-length-5
-    same-length-6
-    returns-3
-    scope-check-essential-requires
-    same-length-7
-    same-length-8
-    returns-4
-    scope-check-assert-requires
-    same-length-9
-    same-length-10
-    returns-5)
+    returns)

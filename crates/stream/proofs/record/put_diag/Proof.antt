@@ -15,7 +15,7 @@ add-end c = search needs
 
 returns : tie.Need-returns
 unfolding diag-record framed u16 u32 le
-returns c = (refl, wrote-skip _ _ _ _ refl (c .if1 .taken))
+returns c = (refl, record { wrote = wrote-skip _ _ _ _ refl (c .if1 .taken); short = λ h. refl })
 
 put-u32-requires : tie.Need-put-u32-requires
 put-u32-requires c κs = search needs
@@ -45,10 +45,14 @@ returns-2 : tie.Need-returns-2
 unfolding diag-record framed u16 u32 le
 returns-2 c = (
   omega arith,
-  wrote-then (c .before .before .before .before .before .before .before .before .before .before .before .before .before .before .before .before .before .before .before .before .put-u32 .ensures .1)
-      (wrote-then (c .before .before .before .before .before .before .before .before .before .before .before .before .before .before .before .before .put-u16 .ensures .1)
-      (wrote-then (c .before .before .before .before .before .before .before .before .before .before .before .put-u322 .ensures .1)
-      (wrote-then (c .before .before .before .before .before .before .put-u323 .ensures .1) (c .before .before .put-u324 .ensures .1)))),
+  record {
+    wrote =
+        wrote-then (c .before .before .before .before .before .before .before .before .before .before .before .before .before .before .before .before .before .before .before .before .put-u32 .ensures .1)
+        (wrote-then (c .before .before .before .before .before .before .before .before .before .before .before .before .before .before .before .before .put-u16 .ensures .1)
+        (wrote-then (c .before .before .before .before .before .before .before .before .before .before .before .put-u322 .ensures .1)
+        (wrote-then (c .before .before .before .before .before .before .put-u323 .ensures .1) (c .before .before .put-u324 .ensures .1))));
+    short = λ h. absurd (omega arith);
+  },
 )
 
 pub put-diag-spec : {M : Type 1} → statement M

@@ -48,7 +48,7 @@ use Rattle.paper.proofs.StatementOffset as O
 use Rattle.paper.proofs.StatementOffset.Laws as O′
 use Rattle.paper.proofs.TokenIndex as I
 use Rattle.paper.proofs.TokenIndex.Laws as I′
-use Rattle.stream.specs.Wrote.{Wrote}
+use Rattle.stream.specs.Wrote.{WroteOrKept}
 use Rattle.stream.specs.Diagnostic.{diagnostic}
 use Rattle.stream.specs.Pushed.{Pushed}
 use Rattle.stream.specs.declared.state.DiagState.{DiagState}
@@ -103,7 +103,7 @@ module _ {M : Type 1} (𝓤 : URA M) (H : Heap 𝓤) (A : Atoms 𝓤) (W : Given
 
   -- what is said of the callee's answer r and of the last list zs
   abbrev Said : ℕ → List ℕ → Type 0
-  Said r zs = (r ≡ h .used + 18) × Wrote ys zs (h .used) r (diag-record (diagnostic k (s .0) (i .0) p))
+  Said r zs = (r ≡ h .used + 18) × WroteOrKept ys zs (h .used) r (diag-record (diagnostic k (s .0) (i .0) p))
 
   pushed : (r : ℕ) (zs : List ℕ) → Said r zs → Pushed h (h′ r) ys zs (diagnostic k (s .0) (i .0) p)
   pushed r zs e = record { used = e .0; count = refl; wrote = e .1 }
