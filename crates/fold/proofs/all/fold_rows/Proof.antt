@@ -19,8 +19,8 @@ abbrev μ-loop : tie.MeasureT-loop
 loop-holds : tie.Need-loop-holds Inv-loop μ-loop
 loop-holds c = fold-start
 
-cast-t20 : tie.Need-cast-t20 Inv-loop μ-loop
-cast-t20 c = let b = c .before .before .before .before .before .before .before .before .before .pre .holds .checks in omega (arith, b .count, b .named .shape .few, b .room .small)
+cast-t21 : tie.Need-cast-t21 Inv-loop μ-loop
+cast-t21 c = let b = c .before .before .before .before .before .before .before .before .before .pre .holds .checks in omega (arith, b .count, b .named .shape .few, b .room .small)
 
 fold-statement-requires : tie.Need-fold-statement-requires Inv-loop μ-loop
 fold-statement-requires c κs = can-step (omega arith) (c .before .before .before .before .loop .inv) (c .before .before .before .before .before .before .before .before .before .pre)
@@ -80,7 +80,7 @@ fold-rows-spec =
     Inv-loop
     μ-loop
     loop-holds
-    cast-t20
+    cast-t21
     fold-statement-requires
     enum-known-next
     stored-requires
