@@ -110,14 +110,16 @@ in comments too.",
         mended: "$( cafe $)",
     },
     Rule {
-        rule: "A comment runs from the token $( to the next token that is exactly $). White space stands around both.",
+        rule: "A comment runs from the token $( to the next token that is exactly $). White space stands around both. In
+between neither $( nor $) may occur, not even within a longer token (number 5).",
         wrong: "$( a remark",
         mended: "$( a remark $)",
     },
     Rule {
         rule: "A token stands where the grammar has no place for it. Statements are: $c and $v with one or more symbols, $d
 with two or more; a label, then $f with two, $e or $a with one or more, or $p with one or more, $= and a
-proof. Each ends in $. and a symbol has no $ in it. ${ and $} stand alone, and each $} closes a ${.",
+proof. Each ends in $. and a symbol has no $ in it. ${ and $} stand alone, and each $} closes a ${. In a
+comment a token with $( or $) in it has no place, but for the $) that ends it.",
         wrong: "$c $.",
         mended: "$c c $.",
     },

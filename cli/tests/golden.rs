@@ -69,6 +69,7 @@ fn refused() -> Folder {
     folder.put("three.mm", b"$c c $.\n$( caf\xC3\xA9 $)\n");
     folder.put("four.mm", b"$c c $.\n  $( a remark\n");
     folder.put("five.mm", b"$c c $.\na $a c $= c $.\n");
+    folder.put("inside.mm", b"$c c $.\n$( a remark, x$) and more $)\n");
     folder.put("six.mm", b"$c c $.\n${\n$c d $.\n");
     folder.put("half.mm", b"$c c $.\n${\na $( with $) $a c c\n");
     folder.put("seven.mm", &many_variables(4_096));
@@ -76,7 +77,7 @@ fn refused() -> Folder {
     folder
 }
 
-const REFUSED: [&str; 7] = ["one.mm", "three.mm", "four.mm", "five.mm", "six.mm", "half.mm", "seven.mm"];
+const REFUSED: [&str; 8] = ["one.mm", "three.mm", "four.mm", "five.mm", "inside.mm", "six.mm", "half.mm", "seven.mm"];
 
 #[test]
 fn numbers() {
