@@ -79,7 +79,7 @@ fn same(name: &str, text: &[u8]) -> usize {
 #[test]
 fn vectors() {
     let frames: usize = all_vectors().iter().map(|v| same(&v.name, &v.text)).sum();
-    assert!(frames > 4_000, "{frames}");
+    assert!(frames > 3_900, "{frames}");
 }
 
 #[test]
