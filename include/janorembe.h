@@ -1,4 +1,5 @@
-/* The scope checker as a C library: link target/staticlib/libcapi.a, which `rt staticlib capi` writes (x86-64 Linux).
+/* The scope checker as a C library (x86-64 Linux). After `make install`, `pkg-config --cflags --libs janorembe` says how to build with it;
+ * without, link target/staticlib/libcapi.a, which `rt staticlib capi` writes. docs/FORMATS.md has every record of both streams to the byte.
  * The functions are total: any bytes and any lengths get an answer. They allocate nothing and keep nothing between
  * calls, so threads may call them at the same time over buffers of their own. */
 #ifndef JANOREMBE_H
@@ -11,7 +12,7 @@
 extern "C" {
 #endif
 
-/* Measure and writer return document 01's number:
+/* Measure and writer return a number; with it comes a place:
  *
  *   0  done; the place is 0
  *   1  text over 16,777,216 bytes; 0
@@ -61,7 +62,7 @@ uint32_t janorembe_write(const uint8_t *text, size_t text_length,
                          uint8_t *diags, size_t diags_length,
                          uint64_t answer[8]);
 
-/* Looks a label up in a frame stream. The whole stream is walked first. Returns document 01's number:
+/* Looks a label up in a frame stream. The whole stream is walked first. Returns a number:
  *
  *   0   found; the place is the offset of the first record with this label
  *  10   a record that is not well framed; the offset of the first one
