@@ -146,7 +146,7 @@ CASES = [
     ("so many names with a common front of 8", 250_000, 1_000_000, "text", lambda k: common_front(k, 8)),
     ("so many names with a common front of 1,440", 2_875, 11_500, "text", lambda k: common_front(k, 1_440)),
     ("so many names of 18 bytes with one hash", 25_000, 100_000, "text", lambda k: one_hash(k, 0)),
-    ("so many with one hash and a common front of 1,430", 2_875, 11_500, "names times front", lambda k: one_hash(k, 1_430)),
+    ("so many with one hash and a common front of 1,430", 1_000, 2_000, "names times front", lambda k: one_hash(k, 1_430)),
     ("so many `$f`, as many assertions", 37_500, 150_000, "text", floats_and_assertions),
     ("so many outermost `$e`, as many assertions", 500, 1_000, "output", essentials),
     ("so many `$` in a comment", 4 * MIB, 16 * MIB, "text", dollars),
