@@ -2,14 +2,20 @@
 import importlib
 import pathlib
 import sys
+import types
 
 MODEL = pathlib.Path(__file__).resolve().parent / "model"
+# the landed requests that change what a text is answered
+LANDED = ["a2_comments"]
 
 
-def load(name="model"):
-    """The model, or one request on top of it, as a module."""
+def load():
+    """The names of the model, those of the landed requests in place of its own."""
     sys.path[:0] = [str(MODEL), str(MODEL / "requests")]
-    return importlib.import_module(name)
+    names = {}
+    for name in ["model", *LANDED]:
+        names.update(vars(importlib.import_module(name)))
+    return types.SimpleNamespace(**names)
 
 
 def texts(paths):

@@ -4,8 +4,11 @@
 # `name text work-words ..`, of which the short texts are taken.
 import os, struct, sys
 sys.dont_write_bytecode = True
-sys.path.insert(0, os.path.join(os.path.dirname(os.path.abspath(__file__)), "../../tools/model"))
-from model import Refusal, first_bad_byte, read, tokens, visible
+sys.path.insert(0, os.path.join(os.path.dirname(os.path.abspath(__file__)), "../../tools"))
+from modelled import load
+
+model = load()
+Refusal, first_bad_byte, read, tokens, visible = model.Refusal, model.first_bad_byte, model.read, model.tokens, model.visible
 
 KINDS = [b"$c", b"$v", b"$d", b"$f", b"$e", b"$a", b"$p"]
 MOST = 65536
