@@ -19,7 +19,7 @@ extern "C" {
  *   2  work area under 16 * (N + 1) words, N the number of tokens; the words needed
  *   3  a byte that is neither white space nor printable; its offset
  *   4  a comment that is never closed; the offset of its `$(`
- *   5  a token that the grammar does not allow there; its offset
+ *   5  a token that the grammar does not allow there, also one in a comment that has $( or $) in it; its offset
  *   6  the text ends in a statement or an open group; its length
  *   7  a frame with over 4,095 variables; the offset of its statement
  *   8  frame buffer too short; the bytes needed (writer only)
