@@ -27,6 +27,8 @@ HAND = [
 
 
 def main(argv):
+    if not argv or argv[0] in ("--help", "-h"):
+        sys.exit(__doc__)
     model = load()
     given_texts = HAND + [text for text in texts(argv) if len(text) <= 400]
     given, right = b"", b""

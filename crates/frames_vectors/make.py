@@ -41,6 +41,8 @@ HAND = [
 
 
 def main(argv):
+    if not argv or argv[0] in ("--help", "-h"):
+        sys.exit(__doc__)
     model = load()
     given_texts = HAND + texts(argv)
     given, right = b"", b""

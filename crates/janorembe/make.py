@@ -11,6 +11,8 @@ from modelled import load  # noqa: E402
 
 
 def main():
+    if sys.argv[1:]:
+        sys.exit(__doc__)
     model = load()
     with open(os.path.join(HERE, "stdin"), "rb") as f:
         text = f.read()

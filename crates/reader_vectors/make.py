@@ -1,8 +1,14 @@
-# Writes this program's cases, `data/cases`, and what it must write, `stdout`:
-#     python3 make.py VECTORS
-# The model, document 01 as a program, reads every text; VECTORS is a file of lines
-# `name text work-words ..`, of which the short texts are taken.
+"""Writes this program's cases, `data/cases`, and what it must write, `stdout`:
+
+    python3 make.py VECTORS
+
+The model, document 01 as a program, reads every text; VECTORS is a file of lines
+`name text work-words ..`, of which the short texts are taken.
+"""
 import os, struct, sys
+
+if len(sys.argv) != 2 or sys.argv[1] in ("--help", "-h"):
+    sys.exit(__doc__)
 sys.dont_write_bytecode = True
 sys.path.insert(0, os.path.join(os.path.dirname(os.path.abspath(__file__)), "../../tools"))
 from modelled import load

@@ -1,8 +1,14 @@
-# Writes this program's cases, `stdin`, and the answers that it must write, `stdout`:
-#     python3 make.py VECTORS
-# The model is document 01 as a program, whose `check` gives the streams of two texts and whose `lookup` gives every
-# answer; VECTORS is a file of lines `name text work-words frame-bytes diagnostics-bytes number place frames diagnostics`.
+"""Writes this program's cases, `stdin`, and the answers that it must write, `stdout`:
+
+    python3 make.py VECTORS
+
+The model is document 01 as a program, whose `check` gives the streams of two texts and whose `lookup` gives every
+answer; VECTORS is a file of lines `name text work-words frame-bytes diagnostics-bytes number place frames diagnostics`.
+"""
 import os, struct, sys
+
+if len(sys.argv) != 2 or sys.argv[1] in ("--help", "-h"):
+    sys.exit(__doc__)
 sys.dont_write_bytecode = True
 sys.path.insert(0, os.path.join(os.path.dirname(os.path.abspath(__file__)), "../../tools/model"))
 from model import check, label_of, lookup
