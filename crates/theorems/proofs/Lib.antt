@@ -1,6 +1,9 @@
 pub mod Tokens
 pub mod Comments
+pub mod Gives
 pub mod Reader
+pub mod Stands
+pub mod Cuts
 pub mod Ends
 pub mod Parts
 pub mod Whole

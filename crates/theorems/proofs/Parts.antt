@@ -16,7 +16,9 @@ use Rattle.theorems.specs.Groups.{closer, blanked}
 use Rattle.paper.proofs.Alls.{All, all-map}
 use Rattle.theorems.proofs.Tokens.{cut, toks-within, Parts, blanked-parts, toks-parts}
 use Rattle.theorems.proofs.Comments.{after-append, visible-append, visible-all, plain-key, shown-cut, shown-after}
-use Rattle.theorems.proofs.Reader.{Reads, many-reads, reads-many, reads-append, Level, reads-level, level-shift, TokenAt, ItemAt, reads-at, reads-cut, brace-opened, brace-closed}
+use Rattle.theorems.proofs.Reader.{Reads, many-reads, reads-many, reads-append, Level, reads-level, level-shift}
+use Rattle.theorems.proofs.Stands.{TokenAt, ItemAt, reads-at}
+use Rattle.theorems.proofs.Cuts.{reads-cut, brace-opened, brace-closed}
 use Rattle.theorems.proofs.Ends.{closers-append, ends-append, ends-at, Owned, owned, neutral, ends-low}
 
 -- ---- a text is read: the reader stands between statements, at depth 0, outside comments
@@ -288,7 +290,7 @@ three {p = p} {q = q} x =
       before = ends (x .front) l;
       within-it = ends (x .body) (q ∷ l);
       behind = ends (x .back) [];
-      whole = ap (λ (r : List Item). ends r []) (x .items-are) ∙ whole-ends (x .front) p (x .body) q (x .back) (neutral q l (x .level) low);
+      whole = ap (λ (r : List Item). ends r []) (x .items-are) ∙ whole-ends (x .front) p (x .body) q (x .back) (neutral (q ∷ l) (x .level));
       without = ends-append (x .front) (x .back) [];
       before-at = ends-at (λ n. n < p) l (x .front-at);
       within-at = ends-at (λ n. (p ≤ n) × (n < q)) (q ∷ l) (x .body-at);

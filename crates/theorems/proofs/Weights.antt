@@ -17,7 +17,8 @@ use Rattle.paper.specs.Frames.{Frame}
 use Rattle.paper.specs.Give.{Given, accept, unless, give-c, give-v, give-d, give-f, give-e, give-assertion, give-by, give}
 use Rattle.paper.proofs.Tests.{split}
 use Rattle.paper.proofs.Sums.{total, total-append, total-keep}
-use Rattle.theorems.proofs.Reader.{weight, statement-weight, items-weight, reads-weight}
+use Rattle.theorems.proofs.Gives.{weight, statement-weight}
+use Rattle.theorems.proofs.Stands.{items-weight, reads-weight}
 use Rattle.theorems.proofs.Parts.{items-read, read-reads}
 
 -- ---- tokens of bytes
