@@ -45,14 +45,14 @@ mode-math (named t) = []
 mode-math (math k o n m) = m
 mode-math (proof o n m p) = m
 
-pub data Grown (t : Token) : List Token → List Token → Type 0 where
-  held : {l : List Token} → Grown t l l
-  grown : {l : List Token} → Grown t l (l ++ (t ∷ []))
+pub data Extends (t : Token) : List Token → List Token → Type 0 where
+  no-more : {l : List Token} → Extends t l l
+  one-more : {l : List Token} → Extends t l (l ++ (t ∷ []))
 
 -- nothing yet; a `${`; a `$}`; the end of a statement
 pub data Gives (m : Mode) (d : ℕ) (t : Token) : Mode → ℕ → List Item → Type 0 where
   quiet : {n : Mode} → mode-at n (t .at) ≡ mode-at m (t .at) → mode-weight n ≤ mode-weight m + suc (length (t .bytes))
-      → Grown t (mode-math m) (mode-math n) → Gives m d t n d []
+      → Extends t (mode-math m) (mode-math n) → Gives m d t n d []
   opening : m ≡ start → key 123 t ≡ true → Gives m d t start (suc d) (opens (t .at) ∷ [])
   closing-one : {e : ℕ} → m ≡ start → key 125 t ≡ true → d ≡ suc e → Gives m d t start e (closes (t .at) ∷ [])
   stating : {s : Statement} → s .at ≡ mode-at m (t .at) → statement-weight s ≤ mode-weight m + suc (length (t .bytes))
@@ -76,15 +76,15 @@ module _ {t : Token} {n : Mode} {e : ℕ} {j : List Item} where
 
   begin-gives : (k : Option Kind) (d : ℕ) → begin k d t ≡ go n e j → Gives start d t n e j
   unfolding total
-  begin-gives (some k) d h = same (quiet {n = math k (t .at) [] []} refl (omega arith) held) h
+  begin-gives (some k) d h = same (quiet {n = math k (t .at) [] []} refl (omega arith) no-more) h
   begin-gives none d h =
       split (label-token t)
-      (λ l. same (quiet {n = named t} refl (omega arith) held) (rw l at h))
+      (λ l. same (quiet {n = named t} refl (omega arith) no-more) (rw l at h))
       (λ l. never {o = t .at} (rw l at h))
 
   keyword-gives : (k : Option Kind) (d : ℕ) (s : Token) → keyword k d s t ≡ go n e j → Gives (named s) d t n e j
   unfolding total
-  keyword-gives (some k) d s h = same (quiet {n = math k (s .at) (s .bytes) []} refl (omega arith) held) h
+  keyword-gives (some k) d s h = same (quiet {n = math k (s .at) (s .bytes) []} refl (omega arith) no-more) h
   keyword-gives none d s h = never h
 
   closed-gives : (k : Kind) (d o : ℕ) (l : List ℕ) (m : List Token) → closed k d o l m ≡ go n e j
@@ -95,7 +95,7 @@ module _ {t : Token} {n : Mode} {e : ℕ} {j : List Item} where
   closed-gives $f d o l m h = same (stating refl (omega arith) refl) h
   closed-gives $e d o l m h = same (stating refl (omega arith) refl) h
   closed-gives $a d o l m h = same (stating refl (omega arith) refl) h
-  closed-gives $p d o l m h = same (quiet {n = proof o l m []} refl (omega arith) held) h
+  closed-gives $p d o l m h = same (quiet {n = proof o l m []} refl (omega arith) no-more) h
 
   pub allow-gives : (m : Mode) (d : ℕ) → allow m d t ≡ go n e j → Gives m d t n e j
   unfolding allow total
@@ -108,13 +108,13 @@ module _ {t : Token} {n : Mode} {e : ℕ} {j : List Item} where
   allow-gives (named s) d h = keyword-gives (label-kind t) d s h
   allow-gives (math k o l m) d h =
       split (and (math-token t) (room k (length m)))
-      (λ a. same (quiet {n = math k o l (m ++ (t ∷ []))} refl (omega (arith, total-append token-weight m (t ∷ []))) grown) (rw a at h))
+      (λ a. same (quiet {n = math k o l (m ++ (t ∷ []))} refl (omega (arith, total-append token-weight m (t ∷ []))) one-more) (rw a at h))
       (λ a. split (and (key (closing k) t) (leb (least k) (length m)))
       (λ c. closed-gives k d o l m (rw (a, c) at h))
       (λ c. never {o = t .at} (rw (a, c) at h)))
   allow-gives (proof o l m p) d h =
       split (math-token t)
-      (λ a. same (quiet {n = proof o l m (p ++ (t ∷ []))} refl (omega arith) held) (rw a at h))
+      (λ a. same (quiet {n = proof o l m (p ++ (t ∷ []))} refl (omega arith) no-more) (rw a at h))
       (λ a. split (and (key 46 t) (leb 1 (length p)))
       (λ c. same (stating refl (omega arith) refl) (rw (a, c) at h))
       (λ c. never {o = t .at} (rw (a, c) at h)))

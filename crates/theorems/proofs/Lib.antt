@@ -6,6 +6,7 @@ pub mod Stands
 pub mod Cuts
 pub mod Ends
 pub mod Parts
+pub mod Agree
 pub mod Whole
 pub mod Fold
 pub mod Streams

@@ -10,7 +10,7 @@ use Rattle.paper.specs.Statements.{Statement, Item, opens, closes, states}
 use Rattle.paper.specs.Reader.{Mode, start, named, math, proof}
 use Rattle.paper.proofs.Sums.{total, total-append}
 use Rattle.paper.proofs.Alls.{All, all-none, all-more, all-append}
-use Rattle.theorems.proofs.Gives.{mode-at, weight, mode-weight, statement-weight, mode-math, Grown, held, grown, Gives, quiet, opening, closing-one, stating, allow-gives}
+use Rattle.theorems.proofs.Gives.{mode-at, weight, mode-weight, statement-weight, mode-math, Extends, no-more, one-more, Gives, quiet, opening, closing-one, stating, allow-gives}
 use Rattle.theorems.proofs.Reader.{Reads, done, step}
 
 -- ---- R3: items stand where the tokens read for them stand
@@ -91,13 +91,13 @@ abbrev pub MathAll : (Token → Type 0) → Item → Type 0
 MathAll P x = All P (item-math x)
 
 module _ (P : Token → Type 0) where
-  grown-all : {t : Token} {l m : List Token} → Grown t l m → P t → All P l → All P m
-  grown-all held p a = a
-  grown-all grown p a = all-append a (all-more p all-none)
+  extends-all : {t : Token} {l m : List Token} → Extends t l m → P t → All P l → All P m
+  extends-all no-more p a = a
+  extends-all one-more p a = all-append a (all-more p all-none)
 
   math-hand : {m n : Mode} {d e : ℕ} {t : Token} {j : List Item} → Gives m d t n e j → P t → All P (mode-math m)
       → All P (mode-math n)
-  math-hand (quiet a b g) p h = grown-all g p h
+  math-hand (quiet a b g) p h = extends-all g p h
   math-hand (opening a b) p h = all-none
   math-hand (closing-one a b c) p h = all-none
   math-hand (stating a b c) p h = all-none
