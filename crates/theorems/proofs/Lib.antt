@@ -9,6 +9,7 @@ pub mod Parts
 pub mod Agree
 pub mod Whole
 pub mod Fold
+pub mod Added
 pub mod Streams
 pub mod Offsets
 pub mod Weights
@@ -19,5 +20,6 @@ pub mod Short
 pub mod Records
 pub mod Demand3
 pub mod Examples
+pub mod Later
 pub mod Unique
 pub mod Measured
