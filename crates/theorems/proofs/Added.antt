@@ -11,15 +11,15 @@ use Rattle.paper.specs.Base.{not, all, any, find, orElse, gather}
 use Rattle.paper.specs.Tokens.{Token}
 use Rattle.paper.specs.Statements.{Kind, $c, $v, $d, $f, $e, $a, $p, Statement, outermost}
 use Rattle.paper.specs.Names.{named, bearer, labels, owner, Declared, declared-by, declarations, declared, declares-name, global}
-use Rattle.paper.specs.State.{State, nothing, view, plus, Sense, by-global}
+use Rattle.paper.specs.State.{State, nothing, view, Sense, by-global}
 use Rattle.paper.specs.Checks.{Verdict, by-declared}
-use Rattle.paper.specs.Give.{Given, give, gives, all-given}
+use Rattle.paper.specs.Give.{give, gives, all-given}
 use Rattle.paper.specs.Records.{frame-record, frame-records, frame-stream}
 use Rattle.paper.proofs.Tests.{split, clash}
 use Rattle.paper.proofs.Lists.{gather-append, find-append}
 use Rattle.paper.proofs.Alls.{All, all-none, all-more, all-map, all-both, all-of}
 use Rattle.paper.proofs.Searches.{all-gather, all-ungather, find-any, find-none}
-use Rattle.theorems.specs.Later.{variables-by, constants-by, nested-variables, outer-constants, quiet, FollowedBy, Initial, LaterStatements}
+use Rattle.theorems.specs.Later.{variables-by, constants-by, nested-variables, outer-constants, quiet, FollowedBy, LaterStatements}
 use Rattle.theorems.proofs.Agree.{SameOwner, SameSense, SameVerdict, Agree, give-same}
 use Rattle.theorems.proofs.Whole.{named-all}
 use Rattle.theorems.proofs.Fold.{later, gives-append}

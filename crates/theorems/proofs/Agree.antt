@@ -1,8 +1,7 @@
 -- What a statement gives, by what it asks of the whole text: the owner of its label, senses and verdicts of its tokens say what it
 -- records and its frame; owners and declarations of its symbols say the rest of its diagnostics. The lemma W3 of the proof on paper.
 use mathlib.Core.Path.{_≡_, refl, sym, ap, _∙_}
-use mathlib.Core.Bool.{false}
-use mathlib.Core.List.{List, [], _∷_, map}
+use mathlib.Core.List.{List, [], map}
 use mathlib.Core.Option.{Option, none, some}
 use Prim.Native.Nat.{ℕ, zero, suc}
 use native.Mathlib.Omega.{arith}

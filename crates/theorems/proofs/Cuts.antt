@@ -6,7 +6,7 @@ use mathlib.Core.List.{List, [], _∷_, _++_, nil≢cons}
 use Prim.Native.Nat.{ℕ, suc}
 use native.Mathlib.Omega.{arith}
 use Rattle.paper.specs.Tokens.{Token, key}
-use Rattle.paper.specs.Statements.{Statement, Item, opens, closes, states}
+use Rattle.paper.specs.Statements.{Item, opens, closes, states}
 use Rattle.paper.specs.Reader.{Mode, start, go, allow}
 use Rattle.paper.proofs.Searches.{not-nil}
 use Rattle.theorems.proofs.Gives.{Gives, quiet, opening, closing-one, stating, allow-gives}

@@ -11,7 +11,7 @@ use lib.ListN.{length}
 use Rattle.paper.specs.Base.{and}
 use Rattle.paper.specs.Tokens.{Token, label-token, math-token, key}
 use Rattle.paper.specs.Statements.{Kind, $c, $v, $d, $f, $e, $a, $p, Statement, Item, opens, closes, states}
-use Rattle.paper.specs.Reader.{Mode, start, named, math, proof, plain-kind, label-kind, room, least, closing, Step, go, stop, shut, begin, keyword, closed, allow}
+use Rattle.paper.specs.Reader.{Mode, start, named, math, proof, plain-kind, label-kind, room, least, closing, go, stop, shut, begin, keyword, closed, allow}
 use Rattle.paper.proofs.Tests.{split}
 use Rattle.paper.proofs.Sums.{total, total-append}
 

@@ -1,32 +1,30 @@
 -- A13, proved: the items of the first text are a front part of the second's, with equal ends; the rest is said of statements.
 -- With segments in place of one text, `Joined` is what is to be shown of them; nothing behind it looks at bytes.
-use mathlib.Core.Path.{_≡_, refl, sym, ap, _∙_, subst}
-use mathlib.Core.Bool.{true, false}
+use mathlib.Core.Path.{_≡_, refl, sym, ap, _∙_}
+use mathlib.Core.Bool.{true}
 use mathlib.Core.List.{List, [], _∷_, _++_}
 use Prim.Native.Nat.{ℕ, suc, _+_, _<_, _≤_}
 use native.Mathlib.Omega.{arith}
 use lib.Dec.{leb}
 use lib.ListN.{length}
 use borrow.Author.Tests.{le-leb, lt-leb}
-use Rattle.paper.specs.Base.{keep}
 use Rattle.paper.specs.Bytes.{white}
 use Rattle.paper.specs.Tokens.{Token, toks, tokens}
 use Rattle.paper.specs.Comments.{outside, visible}
 use Rattle.paper.specs.Statements.{Statement, Item, ends}
-use Rattle.paper.specs.Reader.{start, go, many, given, items, reading}
+use Rattle.paper.specs.Reader.{start, go, many}
 use Rattle.paper.specs.Give.{all-given}
 use Rattle.paper.specs.Records.{frame-stream}
-use Rattle.paper.specs.Answer.{Streams, streams, outcome}
 use Rattle.paper.proofs.Lists.{keep-append}
 use Rattle.paper.proofs.Alls.{All, all-none, all-map, keep-all, keep-none}
-use Rattle.theorems.specs.Later.{quiet, FollowedBy, Initial, stated, statements-of, added, Followed, Undisturbed, Later}
+use Rattle.theorems.specs.Later.{quiet, FollowedBy, Initial, added, Later}
 use Rattle.theorems.proofs.Tokens.{toks-white}
 use Rattle.theorems.proofs.Comments.{visible-append}
 use Rattle.theorems.proofs.Reader.{Reads, many-append, many-reads, reads-level}
-use Rattle.theorems.proofs.Stands.{TokenAt, ItemAt, reads-at, MathAll, reads-math}
+use Rattle.theorems.proofs.Stands.{TokenAt, reads-at, reads-math}
 use Rattle.theorems.proofs.Ends.{ends-append, ends-all, ends-at, neutral}
 use Rattle.theorems.proofs.Parts.{Read, items-read, read-reads, shown-at}
-use Rattle.theorems.proofs.Refusals.{Passed, passed, Answered, answered, number-zero}
+use Rattle.theorems.proofs.Refusals.{passed, answered, number-zero}
 use Rattle.theorems.proofs.Added.{later-statements}
 
 -- ---- items k that are the items i and more, all of which stand behind place n and close what they open
@@ -96,9 +94,9 @@ module _ {n : ℕ} {i k : List Item} (j : Joined n i k) where
 
 -- ---- the theorem
 pub later : Later
-later t u w f d w′ f′ d′ h q =
-    let a = number-zero t w f d (h .done) in
-    let b = number-zero u w′ f′ d′ (h .done-too) in
+later t u w f d w′ f′ d′ h m n q =
+    let a = number-zero t w f d m in
+    let b = number-zero u w′ f′ d′ n in
     let x = answered t w f d (a .0) (a .1) in
     let y = answered u w′ f′ d′ (b .0) (b .1) in
     let r = passed t w (x .statements) (x .passes) in

@@ -21,5 +21,6 @@ pub mod Records
 pub mod Demand3
 pub mod Examples
 pub mod Later
+pub mod LaterExamples
 pub mod Unique
 pub mod Measured

@@ -1,12 +1,11 @@
 -- Where the items that are read stand and their math tokens: where the tokens read for them do; and how much room they take.
 -- The lemma R3 of the proof on paper.
-use mathlib.Core.Path.{_≡_}
-use mathlib.Core.List.{List, [], _∷_, _++_}
+use mathlib.Core.List.{List, []}
 use Prim.Native.Nat.{ℕ, suc, _+_, _≤_}
 use native.Mathlib.Omega.{arith}
 use lib.ListN.{length}
 use Rattle.paper.specs.Tokens.{Token}
-use Rattle.paper.specs.Statements.{Statement, Item, opens, closes, states}
+use Rattle.paper.specs.Statements.{Item, opens, closes, states}
 use Rattle.paper.specs.Reader.{Mode, start, named, math, proof}
 use Rattle.paper.proofs.Sums.{total, total-append}
 use Rattle.paper.proofs.Alls.{All, all-none, all-more, all-append}

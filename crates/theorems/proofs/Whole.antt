@@ -1,6 +1,6 @@
 -- The whole text of demand 3: its global declarations and owners of names with a group in it and without.
 -- The lemmas W1, W2 and W4 of the proof on paper.
-use mathlib.Core.Path.{_≡_, refl, sym, ap, _∙_}
+use mathlib.Core.Path.{_≡_, sym, ap, _∙_}
 use mathlib.Core.Bool.{Bool, true, false}
 use mathlib.Core.List.{List, [], _∷_, _++_, append-nil}
 use Prim.Native.Nat.{ℕ, _<_, _≤_}

@@ -5,3 +5,4 @@ pub mod Examples
 pub mod Unique
 pub mod Measured
 pub mod Later
+pub mod LaterExamples
