@@ -7,7 +7,7 @@ use mathlib.Core.Option.{Option, none, some}
 use Prim.Native.Nat.{ℕ, _<_, _≤_}
 use native.Mathlib.Omega.{arith}
 use borrow.Author.Tests.{le-ltb}
-use Rattle.paper.specs.Base.{not, all, any, find, orElse, gather}
+use Rattle.paper.specs.Base.{any, find, orElse, gather}
 use Rattle.paper.specs.Tokens.{Token}
 use Rattle.paper.specs.Statements.{Kind, $c, $v, $d, $f, $e, $a, $p, Statement, outermost}
 use Rattle.paper.specs.Names.{named, bearer, labels, owner, Declared, declared-by, declarations, declared, declares-name, global}
@@ -19,7 +19,7 @@ use Rattle.paper.proofs.Tests.{split, clash}
 use Rattle.paper.proofs.Lists.{gather-append, find-append}
 use Rattle.paper.proofs.Alls.{All, all-none, all-more, all-map, all-both, all-of}
 use Rattle.paper.proofs.Searches.{all-gather, all-ungather, find-any, find-none}
-use Rattle.theorems.specs.Later.{variables-by, constants-by, nested-variables, outer-constants, quiet, FollowedBy, LaterStatements}
+use Rattle.theorems.specs.Later.{variables-by, constants-by, nested-variables, outer-constants, names-nested, FollowedBy, LaterStatements}
 use Rattle.theorems.proofs.Agree.{SameOwner, SameSense, SameVerdict, Agree, give-same}
 use Rattle.theorems.proofs.Whole.{named-all}
 use Rattle.theorems.proofs.Fold.{later, gives-append}
@@ -40,11 +40,8 @@ unfolding any find
 find-first p [] m e = absurd (clash (sym e))
 find-first p (x ∷ l) m e = split (p x) (λ h. rw h) (λ h. rw h (find-first p l m (rw h at e)))
 
-true-all : {A : Type 0} (p : A → Bool) (l : List A) → all p l ≡ true → All (λ x. p x ≡ true) l
-unfolding all
-true-all p [] e = all-none
-true-all p (x ∷ l) e =
-    split (p x) (λ h. all-more h (true-all p l (rw h at e))) (λ h. let z : false ≡ true = rw h at e in absurd (clash (sym z)))
+none-passes : {A : Type 0} (p : A → Bool) (l : List A) → any p l ≡ false → All (λ x. p x ≡ false) l
+none-passes p l e = find-none p l (find-any p l e)
 
 all-mapped : {A B : Type 0} (Q : B → Type 0) (f : A → B) {l : List A} → All (λ x. Q (f x)) l → All Q (map f l)
 all-mapped Q f all-none = all-none
@@ -96,9 +93,6 @@ later-verdict (some g) p a r h = refl
 later-verdict none none a r h = refl
 later-verdict none (some g) a r h = rw (le-ltb (g .at) a (h .0), h .1)
 
-not-it : {b : Bool} → not b ≡ true → b ≡ false
-not-it {b} e = split b (λ h. let z : false ≡ true = rw h at e in absurd (clash (sym z))) (λ h. h)
-
 nested-all : {P : Token → Type 0} (s : Statement) → All P (s .math) → All P (nested-variables s)
 nested-all {P} s a = split (outermost s) (λ e. rw e all-none) (λ e. rw e (by-kind (s .kind)))
   where
@@ -141,23 +135,24 @@ module _ (l m : List Statement) where
     unfolding global declared
     verdict-same t k e r =
         let n = t .bytes in
-        let c = find-none (named n) (gather outer-constants m) (find-any (named n) (gather outer-constants m) e) in
+        let c = none-passes (named n) (gather outer-constants m) e in
         let d : All (NotConstant n) (declared m) = all-gather declarations (declarations-none n) (all-ungather outer-constants m c) in
         rw (global-more n)
         (later-verdict (global l n) (global m n) (t .at) r
         (find-all (declares-name n) (all-map (λ g z f. (omega (arith, z .0), z .1 f)) (all-both declared-late d))))
 
-    agreed : quiet l m ≡ true → All (Agree l (l ++ m)) l
-    unfolding labels quiet
+    agreed : names-nested l m ≡ false → All (Agree l (l ++ m)) l
+    unfolding labels names-nested
     agreed q =
+        let p : Token → Bool = λ t. any (named (t .bytes)) (gather outer-constants m) in
         let a = all-ungather bearer l owners-same in
-        let b = all-ungather nested-variables l (true-all (λ t. not (any (named (t .bytes)) (gather outer-constants m))) (gather nested-variables l) q) in
+        let b = all-ungather nested-variables l (none-passes p (gather nested-variables l) q) in
         all-map
         (λ s z.
         record {
           label-owner = z .0;
-          senses = all-map (sense-same) (z .1 .0);
-          verdicts = all-map (λ t e. verdict-same t (e .0) (not-it (e .1))) (all-both (nested-all s (z .1 .0)) (z .1 .1));
+          senses = all-map sense-same (z .1 .0);
+          verdicts = all-map (λ t e. verdict-same t (e .0) (e .1)) (all-both (nested-all s (z .1 .0)) (z .1 .1));
         })
         (all-both a (all-both (h .before) b))
 

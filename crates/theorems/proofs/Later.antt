@@ -1,7 +1,7 @@
 -- A13, proved: the items of the first text are a front part of the second's, with equal ends; the rest is said of statements.
 -- With segments in place of one text, `Joined` is what is to be shown of them; nothing behind it looks at bytes.
 use mathlib.Core.Path.{_≡_, refl, sym, ap, _∙_}
-use mathlib.Core.Bool.{true}
+use mathlib.Core.Bool.{true, false}
 use mathlib.Core.List.{List, [], _∷_, _++_}
 use Prim.Native.Nat.{ℕ, suc, _+_, _<_, _≤_}
 use native.Mathlib.Omega.{arith}
@@ -17,7 +17,7 @@ use Rattle.paper.specs.Give.{all-given}
 use Rattle.paper.specs.Records.{frame-stream}
 use Rattle.paper.proofs.Lists.{keep-append}
 use Rattle.paper.proofs.Alls.{All, all-none, all-map, keep-all, keep-none}
-use Rattle.theorems.specs.Later.{quiet, FollowedBy, Initial, added, Later}
+use Rattle.theorems.specs.Later.{names-nested, FollowedBy, Initial, added, Later}
 use Rattle.theorems.proofs.Tokens.{toks-white}
 use Rattle.theorems.proofs.Comments.{visible-append}
 use Rattle.theorems.proofs.Reader.{Reads, many-append, many-reads, reads-level}
@@ -87,10 +87,10 @@ module _ {n : ℕ} {i k : List Item} (j : Joined n i k) where
         keep-all (λ (s : Statement). leb n (s .at)) (all-map (λ s h. le-leb n (s .at) h) b),
       ))
 
-  pub frames-joined : quiet (ends i []) (added n (ends k [])) ≡ true
+  pub frames-joined : names-nested (ends i []) (added n (ends k [])) ≡ false
       → Initial (frame-stream (all-given (ends i []))) (frame-stream (all-given (ends k [])))
   frames-joined q =
-      rw ends-joined (later-statements (ends i []) (ends (j .more) []) followed-by (ap (quiet (ends i [])) (sym added-are) ∙ q))
+      rw ends-joined (later-statements (ends i []) (ends (j .more) []) followed-by (ap (names-nested (ends i [])) (sym added-are) ∙ q))
 
 -- ---- the theorem
 pub later : Later

@@ -1,6 +1,6 @@
 -- The closed examples of A13, computed.
 -- Every shut definition on the way is opened here.
-use mathlib.Core.Path.{_≡_, refl, sym, ap}
+use mathlib.Core.Path.{_≡_, refl, ap}
 use mathlib.Core.List.{List}
 use Prim.Native.Nat.{ℕ, _<_}
 use native.Mathlib.Omega.{arith}
@@ -23,7 +23,7 @@ use Rattle.paper.specs.Records.{le, u16, u32, string, framed, diag-record, frag
 use Rattle.paper.specs.Answer.{written, outcome, answer, laid}
 use Rattle.paper.specs.Lookup.{u16-at, u32-at}
 use Rattle.paper.proofs.Tests.{clash}
-use Rattle.theorems.specs.Later.{quiet, Initial, Undisturbed}
+use Rattle.theorems.specs.Later.{names-nested, Initial, Undisturbed}
 use Rattle.theorems.specs.LaterExamples.{frames-out, LaterExamples}
 
 -- an initial part is no longer than the whole
@@ -35,13 +35,13 @@ undisturbed : {t u : List ℕ} {w f d w′ f′ d′ : ℕ} → Undisturbed t u 
 undisturbed x = rw (x .first-are, x .second-are) (x .frames)
 
 pub later-examples : LaterExamples
-unfolding sameb all any keep find latest gather table white printable label-byte math-byte run toks tokens label-token math-token key bad-from after bracketed visible outermost closers ends allow many items words reading labels owner declared global view nested-of float-of sense each check-label check-outer verdict records nested-records nested-diags check-float check-expression first-index check-disjoint formula sights variables-of index raised pool-of fragments rump expression hypotheses in-order pairs-in new-pairs pairs rows mandatory frame-of give-c give-v give-d give-f give-e give-assertion give gives all-given le u16 u32 string framed diag-record fragment-bytes expression-bytes hypothesis-bytes pair-bytes octet row-bytes full-payload frame-record frame-records diag-records frame-stream diag-stream written outcome answer laid u16-at u32-at quiet
+unfolding sameb all any keep find latest gather table white printable label-byte math-byte run toks tokens label-token math-token key bad-from after bracketed visible outermost closers ends allow many items words reading labels owner declared global view nested-of float-of sense each check-label check-outer verdict records nested-records nested-diags check-float check-expression first-index check-disjoint formula sights variables-of index raised pool-of fragments rump expression hypotheses in-order pairs-in new-pairs pairs rows mandatory frame-of give-c give-v give-d give-f give-e give-assertion give gives all-given le u16 u32 string framed diag-record fragment-bytes expression-bytes hypothesis-bytes pair-bytes octet row-bytes full-payload frame-record frame-records diag-records frame-stream diag-stream written outcome answer laid u16-at u32-at names-nested
 later-examples =
     record {
       constant-needed =
           record {
             follows = record { followed = record { space = 32; is-white = refl; more = _; text = refl }; done = refl; done-too = refl };
-            not-quiet = λ e. clash (sym e);
+            not-quiet = λ e. clash e;
             fails = λ x. no-longer (undisturbed x) (omega arith);
           };
       space-needed =

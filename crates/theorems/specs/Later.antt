@@ -1,12 +1,12 @@
 -- Later stock does not disturb earlier stock (A13 of document 02): what stands in a text keeps its frames when white space and
 -- further statements follow. Nothing is said of diagnostics.
 use mathlib.Core.Path.{_≡_}
-use mathlib.Core.Bool.{Bool, true}
+use mathlib.Core.Bool.{Bool, true, false}
 use mathlib.Core.List.{List, [], _∷_, _++_}
 use Prim.Native.Nat.{ℕ, _<_, _≤_}
 use lib.Dec.{leb}
 use lib.ListN.{length}
-use Rattle.paper.specs.Base.{choose, not, all, any, keep, gather}
+use Rattle.paper.specs.Base.{choose, any, keep, gather}
 use Rattle.paper.specs.Bytes.{white}
 use Rattle.paper.specs.Tokens.{Token, tokens}
 use Rattle.paper.specs.Statements.{Kind, $c, $v, $d, $f, $e, $a, $p, Statement, outermost, Item, ends}
@@ -42,9 +42,9 @@ nested-variables s = choose (outermost s) [] (variables-by (s .kind) (s .math))
 abbrev pub outer-constants : Statement → List Token
 outer-constants s = choose (outermost s) (constants-by (s .kind) (s .math)) []
 
--- no outermost `$c` among the statements m names a token that a nested `$v` among the statements l names
-unfoldable pub quiet : List Statement → List Statement → Bool
-quiet l m = all (λ t. not (any (named (t .bytes)) (gather outer-constants m))) (gather nested-variables l)
+-- an outermost `$c` among the statements m names a token that a nested `$v` among the statements l names
+unfoldable pub names-nested : List Statement → List Statement → Bool
+names-nested l m = any (λ t. any (named (t .bytes)) (gather outer-constants m)) (gather nested-variables l)
 
 -- ---- over statements: l, and l followed by m, whose math tokens stand behind those of l
 pub record FollowedBy (l m : List Statement) : Type 0 where
@@ -59,7 +59,7 @@ pub record Initial (x y : List ℕ) : Type 0 where
 
 abbrev pub LaterStatements : Type 0
 LaterStatements =
-    (l m : List Statement) → FollowedBy l m → quiet l m ≡ true
+    (l m : List Statement) → FollowedBy l m → names-nested l m ≡ false
     → Initial (frame-stream (all-given l)) (frame-stream (all-given (l ++ m)))
 
 -- ---- over texts
@@ -83,7 +83,7 @@ pub record Followed (t u : List ℕ) : Type 0 where
 
 -- and no outermost `$c` in what is added names a token that a nested `$v` of t names
 abbrev pub Quiet : List ℕ → List ℕ → Type 0
-Quiet t u = quiet (statements-of t) (added (length t) (statements-of u)) ≡ true
+Quiet t u = names-nested (statements-of t) (added (length t) (statements-of u)) ≡ false
 
 -- the streams of both, and that the first's frames are an initial part of the second's
 pub record Undisturbed (t u : List ℕ) (w f d w′ f′ d′ : ℕ) : Type 0 where
