@@ -94,9 +94,9 @@ module _ {n : ℕ} {i k : List Item} (j : Joined n i k) where
 
 -- ---- the theorem
 pub later : Later
-later t u w f d w′ f′ d′ h m n q =
-    let a = number-zero t w f d m in
-    let b = number-zero u w′ f′ d′ n in
+later t u w f d w′ f′ d′ h q =
+    let a = number-zero t w f d (h .done) in
+    let b = number-zero u w′ f′ d′ (h .done-too) in
     let x = answered t w f d (a .0) (a .1) in
     let y = answered u w′ f′ d′ (b .0) (b .1) in
     let r = passed t w (x .statements) (x .passes) in

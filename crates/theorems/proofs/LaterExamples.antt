@@ -40,25 +40,25 @@ later-examples =
     record {
       constant-needed =
           record {
-            follows = record { followed = record { space = 32; is-white = refl; more = _; text = refl }; done = refl; done-too = refl };
+            follows = record { space = 32; is-white = refl; more = _; text = refl; done = refl; done-too = refl };
             not-quiet = λ e. clash e;
             fails = λ x. no-longer (undisturbed x) (omega arith);
           };
       space-needed =
           record {
-            follows = record { followed = record { space = 32; is-white = refl; more = _; text = refl }; done = refl; done-too = refl };
+            follows = record { space = 32; is-white = refl; more = _; text = refl; done = refl; done-too = refl };
             is-quiet = refl;
             is-refused = refl;
           };
       diags-not-covered =
           record {
-            follows = record { followed = record { space = 32; is-white = refl; more = _; text = refl }; done = refl; done-too = refl };
+            follows = record { space = 32; is-white = refl; more = _; text = refl; done = refl; done-too = refl };
             is-quiet = refl;
             fails = λ i. let z : _≡_ {A = ℕ} 5 2 = ap (λ (l : List ℕ). getD l 4 0) (i .whole) in omega arith;
           };
       group-added =
           record {
-            follows = record { followed = record { space = 32; is-white = refl; more = _; text = refl }; done = refl; done-too = refl };
+            follows = record { space = 32; is-white = refl; more = _; text = refl; done = refl; done-too = refl };
             is-quiet = refl;
             before = refl;
             after = refl;
@@ -66,7 +66,7 @@ later-examples =
           };
       variable-added =
           record {
-            follows = record { followed = record { space = 32; is-white = refl; more = _; text = refl }; done = refl; done-too = refl };
+            follows = record { space = 32; is-white = refl; more = _; text = refl; done = refl; done-too = refl };
             is-quiet = refl;
             before = refl;
             after = refl;
@@ -74,7 +74,7 @@ later-examples =
           };
       nothing-added =
           record {
-            follows = record { followed = record { space = 32; is-white = refl; more = _; text = refl }; done = refl; done-too = refl };
+            follows = record { space = 32; is-white = refl; more = _; text = refl; done = refl; done-too = refl };
             is-quiet = refl;
             before = refl;
             after = refl;

@@ -74,14 +74,17 @@ statements-of t = stated (items (tokens t) (length t))
 abbrev pub added : ℕ → List Statement → List Statement
 added n l = keep (λ s. leb n (s .at)) l
 
--- the text u is the text t, then white space, then more
-pub record Followed (t u : List ℕ) : Type 0 where
+-- The text u is the text t, then white space, then more. Both are answered without refusal, each with a work area of its own
+-- (w and w′ words) and output buffers of its own (f and d, f′ and d′ bytes).
+pub record Followed (t u : List ℕ) (w f d w′ f′ d′ : ℕ) : Type 0 where
   pub space : ℕ
   pub is-white : white space ≡ true
   pub more : List ℕ
   pub text : u ≡ t ++ (space ∷ more)
+  pub done : number (answer t w f d) ≡ 0
+  pub done-too : number (answer u w′ f′ d′) ≡ 0
 
--- and no outermost `$c` in what is added names a token that a nested `$v` of t names
+-- no outermost `$c` in the added part names a token that a nested `$v` of the first part names
 abbrev pub Quiet : List ℕ → List ℕ → Type 0
 Quiet t u = names-nested (statements-of t) (added (length t) (statements-of u)) ≡ false
 
@@ -93,12 +96,5 @@ pub record Undisturbed (t u : List ℕ) (w f d w′ f′ d′ : ℕ) : Type 0 wh
   pub second-are : outcome u w′ f′ d′ ≡ given second
   pub frames : Initial (first .frames) (second .frames)
 
--- each with a work area (w and w′ words) and output buffers (f and d, f′ and d′ bytes) of its own
 abbrev pub Later : Type 0
-Later =
-    (t u : List ℕ) (w f d w′ f′ d′ : ℕ)
-    → Followed t u
-    → number (answer t w f d) ≡ 0
-    → number (answer u w′ f′ d′) ≡ 0
-    → Quiet t u
-    → Undisturbed t u w f d w′ f′ d′
+Later = (t u : List ℕ) (w f d w′ f′ d′ : ℕ) → Followed t u w f d w′ f′ d′ → Quiet t u → Undisturbed t u w f d w′ f′ d′

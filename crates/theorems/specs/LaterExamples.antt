@@ -6,18 +6,18 @@ use Prim.Native.Nat.{ℕ}
 use lib.ListN.{length}
 use Rattle.paper.specs.Base.{codes}
 use Rattle.paper.specs.Reader.{Outcome, refused, given}
-use Rattle.paper.specs.Answer.{Streams, number}
+use Rattle.paper.specs.Answer.{Streams}
 use Rattle.paper.specs.declared.Refusal.the-variants.{BadToken}
 use Rattle.paper.specs.declared.Answer.{Answer}
 use Rattle.paper.specs.declared.Answer.the-variants.{Done, Refused}
 use Rattle.theorems.specs.Later.{Initial, Followed, Quiet, Undisturbed}
 use Rattle.theorems.specs.Examples.{buffer, outcome-of, answer-to}
 
--- white space between, and both are answered without refusal
-pub record Follows (t u : List ℕ) : Type 0 where
-  pub followed : Followed t u
-  pub done : number (answer-to t) ≡ 0
-  pub done-too : number (answer-to u) ≡ 0
+abbrev pub room : ℕ
+room = length buffer
+
+abbrev pub Follows : List ℕ → List ℕ → Type 0
+Follows t u = Followed t u room room room room room room
 
 abbrev pub frames-out : Outcome Streams → List ℕ
 frames-out (refused r) = []
@@ -31,7 +31,7 @@ diags-out (given s) = s .diags
 pub record Disturbs (t u : List ℕ) : Type 0 where
   pub follows : Follows t u
   pub not-quiet : Quiet t u → ⊥
-  pub fails : Undisturbed t u (length buffer) (length buffer) (length buffer) (length buffer) (length buffer) (length buffer) → ⊥
+  pub fails : Undisturbed t u room room room room room room → ⊥
 
 abbrev pub variable-first : List ℕ
 variable-first = codes "$c c $. ${ $v x $. f $f c x $. $}"
