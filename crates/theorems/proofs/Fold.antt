@@ -15,7 +15,7 @@ use Rattle.paper.proofs.Tests.{split}
 use Rattle.paper.proofs.Lists.{keep-append}
 use Rattle.paper.proofs.Alls.{All, all-none, all-more, all-append, all-left, all-right, all-map, keep-none}
 use Rattle.theorems.specs.Groups.{Apart}
-use Rattle.theorems.proofs.Parts.{Three}
+use Rattle.theorems.proofs.Three.{Three}
 use Rattle.theorems.proofs.Agree.{same-given, give-same}
 use Rattle.theorems.proofs.Whole.{AgreeAll, agree}
 

@@ -23,7 +23,7 @@ use Rattle.theorems.proofs.Comments.{visible-append}
 use Rattle.theorems.proofs.Reader.{Reads, many-append, many-reads, reads-level}
 use Rattle.theorems.proofs.Stands.{TokenAt, reads-at, reads-math}
 use Rattle.theorems.proofs.Ends.{ends-append, ends-all, ends-at, neutral}
-use Rattle.theorems.proofs.Parts.{Read, items-read, read-reads, shown-at}
+use Rattle.theorems.proofs.Texts.{Read, items-read, read-reads, shown-at}
 use Rattle.theorems.proofs.Refusals.{passed, answered, number-zero}
 use Rattle.theorems.proofs.Added.{later-statements}
 

@@ -4,8 +4,10 @@ pub mod Gives
 pub mod Reader
 pub mod Stands
 pub mod Cuts
+pub mod Texts
 pub mod Ends
 pub mod Parts
+pub mod Three
 pub mod Agree
 pub mod Whole
 pub mod Fold

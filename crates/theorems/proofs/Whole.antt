@@ -17,7 +17,7 @@ use Rattle.paper.proofs.Alls.{All, all-none, all-more, all-map, all-both, all-o
 use Rattle.paper.proofs.Searches.{all-ungather, gather-none, find-any}
 use Rattle.theorems.specs.Groups.{inside, outside, symbols, borne, declared-in, Apart}
 use Rattle.theorems.specs.Later.{nested-variables}
-use Rattle.theorems.proofs.Parts.{Three}
+use Rattle.theorems.proofs.Three.{Three}
 use Rattle.theorems.proofs.Agree.{SameOwner, Agree, SymbolsAgree}
 
 -- ---- where statements stand
