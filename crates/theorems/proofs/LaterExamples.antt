@@ -44,7 +44,7 @@ later-examples =
             not-quiet = λ e. clash e;
             fails = λ x. no-longer (undisturbed x) (omega arith);
           };
-      space-needed =
+      space-left-out =
           record {
             follows = record { space = 32; is-white = refl; more = _; text = refl; done = refl; done-too = refl };
             is-quiet = refl;

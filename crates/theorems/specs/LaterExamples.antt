@@ -45,8 +45,8 @@ pub record Unspaced (t m : List ℕ) (p : ℕ) : Type 0 where
   pub is-quiet : Quiet t (t ++ (32 ∷ m))
   pub is-refused : answer-to (t ++ m) ≡ Refused (BadToken p)
 
-abbrev pub SpaceNeeded : Type 0
-SpaceNeeded = Unspaced (codes "$c c $.") (codes "$v x $.") 5
+abbrev pub SpaceLeftOut : Type 0
+SpaceLeftOut = Unspaced (codes "$c c $.") (codes "$v x $.") 5
 
 -- ---- all premises hold, and the diagnostics of the first are no initial part of the second's
 pub record ToldOtherwise (t u : List ℕ) : Type 0 where
@@ -86,7 +86,7 @@ NothingAdded = Undisturbing group-first (group-first ++ codes " ") (Done 106 0 2
 
 pub record LaterExamples : Type 0 where
   pub constant-needed : ConstantNeeded
-  pub space-needed : SpaceNeeded
+  pub space-left-out : SpaceLeftOut
   pub diags-not-covered : DiagsNotCovered
   pub group-added : GroupAdded
   pub variable-added : VariableAdded
