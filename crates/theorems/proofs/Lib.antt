@@ -22,6 +22,10 @@ pub mod Short
 pub mod Records
 pub mod Demand3
 pub mod Examples
+pub mod Mapped
+pub mod MovedNames
+pub mod MovedChecks
+pub mod Moved
 pub mod Later
 pub mod LaterExamples
 pub mod Unique
