@@ -26,6 +26,11 @@ pub mod Mapped
 pub mod MovedNames
 pub mod MovedChecks
 pub mod Moved
+pub mod MovedReading
+pub mod Addresses
+pub mod SegmentTokens
+pub mod SegmentReads
+pub mod Joined
 pub mod Later
 pub mod LaterExamples
 pub mod Unique

@@ -93,7 +93,7 @@ pub record Fair (n : ℕ) (x : State) : Type 0 where
   pub disjoints : All (λ y. Ended n (y .end)) (x .disjoints)
 
 module _ {f : ℕ → ℕ} {n : ℕ} (r : Rises f n) where
-  at-least : (a : ℕ) → a ≤ f a
+  pub at-least : (a : ℕ) → a ≤ f a
   at-least zero = omega arith
   at-least (suc a) = omega (arith, at-least a, r .rising a (suc a) (omega arith))
 

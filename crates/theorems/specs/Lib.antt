@@ -5,5 +5,6 @@ pub mod Examples
 pub mod Unique
 pub mod Measured
 pub mod Moved
+pub mod Joined
 pub mod Later
 pub mod LaterExamples
