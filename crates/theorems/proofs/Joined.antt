@@ -10,7 +10,7 @@ use native.Mathlib.Omega.{arith}
 use lib.Dec.{eqb, leb, ltb}
 use lib.ListN.{length, take, drop, length-take, length-drop}
 use lib.Seq.{take-length}
-use borrow.Author.Tests.{ne-eqb, eq-eqb, ltb-false}
+use borrow.Author.Tests.{ne-eqb, eq-eqb, eqb-true, ltb-false}
 use Rattle.paper.specs.Base.{choose, and, orElse}
 use Rattle.paper.specs.Tokens.{toks, tokens, bad-from}
 use Rattle.paper.specs.Statements.{Statement, none-end, Item, ends}
@@ -54,12 +54,12 @@ single t w =
     rw (eq-eqb (length t + 0) (length t) (add-zero (length t)), take-length t, append-nil (toks t 0), looking-one t)
 
 -- ---- the segments of a buffer
-segments-count : (l t : List ℕ) → length (segments l t) ≡ length l
+pub segments-count : (l t : List ℕ) → length (segments l t) ≡ length l
 unfolding segments
 segments-count [] t = refl
 segments-count (n ∷ l) t = omega (arith, segments-count l (drop n t))
 
-segments-small : (l t : List ℕ) → Small t → All Small (segments l t)
+pub segments-small : (l t : List ℕ) → Small t → All Small (segments l t)
 unfolding segments
 segments-small [] t h = all-none
 segments-small (n ∷ l) t h =
@@ -67,15 +67,17 @@ segments-small (n ∷ l) t h =
 
 -- what a catalogue with which nothing is refused has passed
 pub record Well (l t : List ℕ) (k : List Statement) : Type 0 where
-  pub fits : laid-out l t ≡ true
   pub few : length l ≤ 64
+  pub adds : sum l ≡ length t
   pub small : Small t
   pub looks : looking (segments l t) ≡ given k
 
-few-segments : (l t : List ℕ) → laid-out l t ≡ true → length l ≤ 64
+laid-facts : (l t : List ℕ) → laid-out l t ≡ true → (length l ≤ 64) × (sum l ≡ length t)
 unfolding laid-out
-few-segments l t e =
-    by-leb (length l) 64 (λ h g. h) (λ h g. absurd (clash (sym (rw g at e))))
+laid-facts l t e =
+    by-leb (length l) 64
+    (λ h g. (h, eqb-true (sum l) (length t) (rw g at e)))
+    (λ h g. absurd (clash (sym (rw g at e))))
 
 not-laid : {A P : Type 0} {a : A} → bad-lengths ≡ well-laid a → P
 not-laid e = let c : _≡_ {A = ℕ} 0 1 = cc in absurd (omega arith)
@@ -94,8 +96,8 @@ well l t w k e =
     (λ c. not-given {A = List Statement} {r = ShortWork (segment-words s)} {a = k} (laid-same (rw (a, b, c) at e)))
     (λ c.
     record {
-      fits = a;
-      few = few-segments l t a;
+      few = laid-facts l t a .0;
+      adds = laid-facts l t a .1;
       small = ltb-false 16777216 (length t) b;
       looks = laid-same (rw (a, b, c) at e);
     })))

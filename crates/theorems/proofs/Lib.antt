@@ -32,6 +32,7 @@ pub mod SegmentTokens
 pub mod SegmentReads
 pub mod Joined
 pub mod Later
+pub mod LaterSegments
 pub mod LaterExamples
 pub mod Unique
 pub mod Measured

@@ -11,6 +11,7 @@ use Rattle.paper.specs.Bytes.{white}
 use Rattle.paper.specs.Tokens.{Token, tokens}
 use Rattle.paper.specs.Statements.{Kind, $c, $v, $d, $f, $e, $a, $p, Statement, outermost, Item, ends}
 use Rattle.paper.specs.Reader.{Outcome, refused, given, items}
+use Rattle.paper.specs.Segments.{base, well-laid, segment-reading}
 use Rattle.paper.specs.Names.{named}
 use Rattle.paper.specs.Give.{all-given}
 use Rattle.paper.specs.Records.{frame-stream}
@@ -98,3 +99,12 @@ pub record Undisturbed (t u : List ℕ) (w f d w′ f′ d′ : ℕ) : Type 0 wh
 
 abbrev pub Later : Type 0
 Later = (t u : List ℕ) (w f d w′ f′ d′ : ℕ) → Followed t u w f d w′ f′ d′ → Quiet t u → Undisturbed t u w f d w′ f′ d′
+
+-- ---- over segments: those of lengths l in the buffer t; and these with further ones of lengths m, laid behind them in u
+-- Both are read without refusal, with work areas of w and w′ words; their statements are k and j. The added statements are those
+-- whose address is in a further segment
+abbrev pub LaterSegments : Type 0
+LaterSegments =
+    (l m t u : List ℕ) (w w′ : ℕ) (k j : List Statement)
+    → segment-reading l t w ≡ well-laid (given k) → segment-reading (l ++ m) (t ++ u) w′ ≡ well-laid (given j)
+    → names-nested k (added (base (length l)) j) ≡ false → Initial (frame-stream (all-given k)) (frame-stream (all-given j))
