@@ -3,17 +3,18 @@
 use mathlib.Core.Path.{_≡_, refl, sym, ap, _∙_}
 use mathlib.Core.Bool.{true, false}
 use mathlib.Core.List.{List, [], _∷_, _++_}
-use Prim.Native.Nat.{ℕ, suc, _+_, _-_, _<_, _≤_}
+use Prim.Native.Nat.{ℕ, suc, _+_, _-_, _*_, _<_, _≤_}
 use native.Mathlib.Omega.{arith}
 use lib.Dec.{eqb, leb, ltb}
 use lib.ListN.{length, length-append}
+use lib.Pow.{high, low}
 use borrow.Author.Tests.{eq-eqb, ne-eqb, lt-ltb, le-ltb, le-leb, lt-leb, eqb-true, ltb-true, ltb-false}
 use Rattle.paper.specs.Statements.{none-end}
-use Rattle.paper.specs.Segments.{base}
+use Rattle.paper.specs.Segments.{base, segment-of, offset-of}
 use Rattle.paper.proofs.Tests.{split, eqb-ne}
 use Rattle.paper.proofs.Alls.{All, all-none, all-more}
 use Rattle.theorems.specs.Moved.{Rises}
-use Rattle.theorems.specs.Joined.{joined, address-in, Ordered}
+use Rattle.theorems.specs.Joined.{joined, address-in, Ordered, Addressed}
 
 abbrev pub Small : List ℕ → Type 0
 Small s = length s ≤ 16777216
@@ -97,3 +98,8 @@ ordered k j o p h i =
     (λ z. le-ltb (base k + o) (base j + p) (omega (arith, ltb-false o p z)) ∙ sym z)))
     (λ g. let q : (k ≡ j) → ⊥ = eqb-ne g in
     rw (e, g) (le-ltb (base k + o) (base j + p) (omega (arith, ltb-false k j e)))))
+
+pub addressed : Addressed
+addressed k o h =
+    let q : base k + o ≡ k * 33554432 + o = omega arith in
+    (ap segment-of q ∙ high k 25 h, ap offset-of q ∙ low k 25 h)

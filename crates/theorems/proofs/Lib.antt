@@ -31,6 +31,7 @@ pub mod Addresses
 pub mod SegmentTokens
 pub mod SegmentReads
 pub mod Joined
+pub mod JoinedExamples
 pub mod Later
 pub mod LaterSegments
 pub mod LaterExamples

@@ -48,3 +48,7 @@ abbrev pub Ordered : Type 0
 Ordered =
     (k j o p : ℕ) → o < 33554432 → p < 33554432
     → ltb (base k + o) (base j + p) ≡ or (ltb k j) (and (eqb k j) (ltb o p))
+
+-- an address tells its segment and its offset
+abbrev pub Addressed : Type 0
+Addressed = (k o : ℕ) → o < 33554432 → (segment-of (base k + o) ≡ k) × (offset-of (base k + o) ≡ o)

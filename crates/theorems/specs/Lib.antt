@@ -6,5 +6,6 @@ pub mod Unique
 pub mod Measured
 pub mod Moved
 pub mod Joined
+pub mod JoinedExamples
 pub mod Later
 pub mod LaterExamples
