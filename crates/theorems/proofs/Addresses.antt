@@ -8,8 +8,7 @@ use native.Mathlib.Omega.{arith}
 use lib.Dec.{eqb, leb, ltb}
 use lib.ListN.{length, length-append}
 use lib.Pow.{high, low}
-use borrow.Author.Tests.{eq-eqb, ne-eqb, lt-ltb, le-ltb, le-leb, lt-leb, eqb-true, ltb-true, ltb-false}
-use Rattle.paper.specs.Statements.{none-end}
+use borrow.Author.Tests.{lt-ltb, le-ltb, le-leb, lt-leb, eqb-true, ltb-true, ltb-false}
 use Rattle.paper.specs.Segments.{base, segment-of, offset-of}
 use Rattle.paper.proofs.Tests.{split, eqb-ne}
 use Rattle.paper.proofs.Alls.{All, all-none, all-more}

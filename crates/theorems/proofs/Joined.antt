@@ -1,21 +1,21 @@
 -- Segments as one text, proved: the reading by the tokens of the segments joined, the scope by the order of offsets.
 -- One segment alone is a text.
 use mathlib.Core.Path.{_≡_, refl, sym, ap, _∙_}
-use mathlib.Core.Bool.{Bool, true, false}
+use mathlib.Core.Bool.{true}
 use mathlib.Core.List.{List, [], _∷_, map, append-nil}
 use mathlib.Core.Option.{Option, none, some}
 use Prim.Native.Nat.{ℕ, _+_, _<_, _≤_}
 use native.Mathlib.Nat.{add-zero}
 use native.Mathlib.Omega.{arith}
-use lib.Dec.{eqb, leb, ltb}
+use lib.Dec.{ltb}
 use lib.ListN.{length, take, drop, length-take, length-drop}
 use lib.Seq.{take-length}
 use borrow.Author.Tests.{ne-eqb, eq-eqb, eqb-true, ltb-false}
-use Rattle.paper.specs.Base.{choose, and, orElse}
+use Rattle.paper.specs.Base.{orElse}
 use Rattle.paper.specs.Tokens.{toks, tokens, bad-from}
 use Rattle.paper.specs.Statements.{Statement, none-end, Item, ends}
 use Rattle.paper.specs.Reader.{Outcome, refused, given, items, with-ends, printed, words, reading}
-use Rattle.paper.specs.Segments.{base, segments, sum, laid-out, segment-tokens, segment-bad, and-then, segment-items, Laid, bad-lengths, well-laid, segment-words, looking, segment-reading}
+use Rattle.paper.specs.Segments.{segments, sum, laid-out, segment-tokens, segment-bad, and-then, segment-items, bad-lengths, well-laid, segment-words, looking, segment-reading}
 use Rattle.paper.specs.Give.{all-given}
 use Rattle.paper.specs.declared.Refusal.the-variants.{LongText, ShortWork}
 use Rattle.paper.proofs.Tests.{split, clash}

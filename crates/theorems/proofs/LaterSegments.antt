@@ -3,11 +3,11 @@
 use mathlib.Core.Path.{_≡_, refl, sym, ap, _∙_}
 use mathlib.Core.Bool.{false}
 use mathlib.Core.List.{List, [], _∷_, _++_}
-use Prim.Native.Nat.{ℕ, zero, suc, _+_, _<_, _≤_}
+use Prim.Native.Nat.{ℕ, zero, suc, _+_, _≤_}
 use native.Mathlib.Omega.{arith}
 use lib.ListN.{length, take, drop, length-drop}
 use Rattle.paper.specs.Comments.{outside, visible}
-use Rattle.paper.specs.Statements.{Statement, Item, ends}
+use Rattle.paper.specs.Statements.{Statement, Item}
 use Rattle.paper.specs.Reader.{given}
 use Rattle.paper.specs.Segments.{base, segments, sum, segment-tokens, segment-items, looking}
 use Rattle.paper.specs.Give.{all-given}

@@ -1,13 +1,13 @@
 -- Offsets moved by a rising function: frames, what one statement gives, and what all give one after the other.
 -- Recorded ends stay below n or none, since what is recorded carries its statement's end.
-use mathlib.Core.Path.{_≡_, refl, sym, ap, _∙_}
+use mathlib.Core.Path.{_≡_, refl, sym, ap}
 use mathlib.Core.List.{List, [], _∷_, _++_, map}
 use Prim.Native.Nat.{ℕ, _+_}
 use lib.ListN.{length, drop}
 use Rattle.paper.specs.Base.{not, keep, gather}
 use Rattle.paper.specs.Tokens.{Token}
-use Rattle.paper.specs.Statements.{Kind, $c, $v, $d, $f, $e, $a, $p, Statement, none-end, outermost}
-use Rattle.paper.specs.State.{Formula, Hyp, float, essential, hyp-end, Disjoint, State, nothing, plus, view}
+use Rattle.paper.specs.Statements.{Kind, $c, $v, $d, $f, $e, $a, $p, Statement, outermost}
+use Rattle.paper.specs.State.{Formula, Hyp, float, essential, Disjoint, State, nothing, plus, view}
 use Rattle.paper.specs.Checks.{Diag, token, check-label, check-float, check-expression, check-disjoint}
 use Rattle.paper.specs.Variables.{symbol, formula, formula-in, mandatory, member}
 use Rattle.paper.specs.Expressions.{hypothesis, pooled, hypotheses}

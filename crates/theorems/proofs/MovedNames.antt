@@ -1,21 +1,21 @@
 -- Offsets moved by a rising function: owners, global declarations, what is active, the senses of tokens and the verdicts on them.
 -- All that compares offsets stands here.
 use mathlib.Core.Path.{_≡_, refl, sym, ap, _∙_}
-use mathlib.Core.Bool.{Bool, true, false}
+use mathlib.Core.Bool.{true, false}
 use mathlib.Core.List.{List, [], _∷_, _++_, map}
 use mathlib.Core.Option.{Option, none, some}
 use Prim.Native.Nat.{ℕ, zero, suc, _<_, _≤_}
 use native.Mathlib.Omega.{arith}
 use lib.Dec.{eqb, ltb}
 use borrow.Author.Tests.{eq-eqb, ne-eqb, lt-ltb, le-ltb, eqb-true, ltb-true, ltb-false}
-use Rattle.paper.specs.Base.{not, find, gather}
+use Rattle.paper.specs.Base.{gather}
 use Rattle.paper.specs.Tokens.{Token}
 use Rattle.paper.specs.Statements.{Kind, $c, $v, $d, $f, $e, $a, $p, labelled, Statement, none-end, outermost}
 use Rattle.paper.specs.Names.{named, bearer, labels, owner, Declared, declares, declared-by, declarations, declared, declares-name, global}
-use Rattle.paper.specs.State.{Nested, Hyp, float, essential, hyp-end, Disjoint, State, plus, active-nested, active-hyp, active-disjoint, view, nested-name, nested-of, float-name, float-of, Sense, by-nested, by-global, sense}
+use Rattle.paper.specs.State.{Nested, Hyp, float, essential, hyp-end, State, plus, active-nested, active-hyp, active-disjoint, view, nested-name, nested-of, float-name, float-of, Sense, by-nested, by-global, sense}
 use Rattle.paper.specs.Checks.{Verdict, against, record-it, by-known, by-declared, verdict, recorded-by, records, nested-records}
 use Rattle.paper.proofs.Tests.{split, eqb-ne}
-use Rattle.paper.proofs.Alls.{All, all-none, all-more, all-map, all-of}
+use Rattle.paper.proofs.Alls.{All, all-map, all-of}
 use Rattle.paper.proofs.Gather.{map-append}
 use Rattle.theorems.specs.Moved.{moved-end, moved-token, moved-statement, moved-nested, moved-hyp, moved-disjoint, moved-state, Rises, Ended, Placed}
 use Rattle.theorems.proofs.Mapped.{map-option, keep-mapped, find-mapped, latest-mapped, gather-mapped, map-mapped}

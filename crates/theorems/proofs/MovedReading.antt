@@ -8,11 +8,10 @@ use Prim.Native.Nat.{ℕ, zero, suc, _<_}
 use native.Mathlib.Omega.{arith}
 use lib.Dec.{eqb, leb}
 use lib.ListN.{length, length-map}
-use borrow.Author.Tests.{ne-eqb}
 use Rattle.paper.specs.Base.{choose, and}
 use Rattle.paper.specs.Tokens.{Token, label-token, math-token, key}
 use Rattle.paper.specs.Comments.{Place, outside, inside, next, after, marked, shown, visible}
-use Rattle.paper.specs.Statements.{Kind, $c, $v, $d, $f, $e, $a, $p, Statement, none-end, Item, opens, closes, states, top, tail, onto, closers, ended, with-end, ends}
+use Rattle.paper.specs.Statements.{Kind, $c, $v, $d, $f, $e, $a, $p, none-end, Item, opens, closes, states, top, tail, closers, ended, ends}
 use Rattle.paper.specs.Reader.{Mode, start, named, math, proof, plain-kind, label-kind, room, least, closing, Step, go, stop, statement, shut, begin, keyword, closed, allow, with-items, many}
 use Rattle.paper.proofs.Alls.{All, all-none, all-more}
 use Rattle.paper.proofs.Gather.{map-append}

@@ -1,7 +1,6 @@
 -- The tokens of segments: those of the segments joined, each at the address there; and between which addresses they stand.
 -- The tokens of some bytes from another offset on are the same, moved.
 use mathlib.Core.Path.{_≡_, refl, sym, ap, _∙_}
-use mathlib.Core.Bool.{true, false}
 use mathlib.Core.List.{List, [], _∷_, _++_, map, append-nil}
 use Prim.Native.Nat.{ℕ, suc, _+_, _<_, _≤_}
 use native.Mathlib.Nat.{add-zero}
