@@ -4,5 +4,6 @@ pub mod Demand3
 pub mod Examples
 pub mod Unique
 pub mod Measured
+pub mod Restricted
 pub mod Later
 pub mod LaterExamples
