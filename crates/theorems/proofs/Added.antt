@@ -13,8 +13,10 @@ use Rattle.paper.specs.Statements.{Kind, $c, $v, $d, $f, $e, $a, $p, Statement,
 use Rattle.paper.specs.Names.{named, bearer, labels, owner, Declared, declared-by, declarations, declared, declares-name, global}
 use Rattle.paper.specs.State.{State, nothing, view, Sense, by-global}
 use Rattle.paper.specs.Checks.{Verdict, by-declared}
+use Rattle.paper.specs.Frames.{frame-as}
 use Rattle.paper.specs.Give.{give, gives, all-given}
 use Rattle.paper.specs.Records.{frame-record, frame-records, frame-stream}
+use Rattle.paper.specs.declared.Setting.{Setting}
 use Rattle.paper.proofs.Tests.{split, clash}
 use Rattle.paper.proofs.Lists.{gather-append, find-append}
 use Rattle.paper.proofs.Alls.{All, all-none, all-more, all-map, all-both, all-of}
@@ -157,20 +159,20 @@ module _ (l m : List Statement) where
         (all-both a (all-both (h .before) b))
 
 -- ---- the fold
-frames-same : {w x l : List Statement} → All (Agree w x) l → (y : State) → frame-stream (gives w l y) ≡ frame-stream (gives x l y)
+frames-same : (c : Setting) {w x l : List Statement} → All (Agree w x) l → (y : State) → frame-stream c (gives w l y) ≡ frame-stream c (gives x l y)
 unfolding gives frame-stream frame-records gather
-frames-same all-none y = refl
-frames-same {w} {x} (all-more {x = s} a b) y =
+frames-same c all-none y = refl
+frames-same c {w} {x} (all-more {x = s} a b) y =
     let g = give-same a (view y (s .at)) in
-    rw (g .framed, g .recorded) (ap (λ (r : List ℕ). gather frame-record (give x (view y (s .at)) s .frame) ++ r) (frames-same b _))
+    rw (g .framed, g .recorded) (ap (λ (r : List ℕ). gather (λ z. frame-record (frame-as c z)) (give x (view y (s .at)) s .frame) ++ r) (frames-same c b _))
 
 pub later-statements : LaterStatements
 unfolding all-given frame-stream
-later-statements l m h q =
+later-statements c l m h q =
     record {
-      more = frame-stream (gives (l ++ m) m (later (l ++ m) l nothing));
+      more = frame-stream c (gives (l ++ m) m (later (l ++ m) l nothing));
       whole =
-          ap frame-stream (gives-append (l ++ m) l m nothing)
-          ∙ (gather-append frame-records (gives (l ++ m) l nothing) (gives (l ++ m) m (later (l ++ m) l nothing))
-          ∙ ap (λ (r : List ℕ). r ++ frame-stream (gives (l ++ m) m (later (l ++ m) l nothing))) (sym (frames-same (agreed l m h q) nothing)));
+          ap (frame-stream c) (gives-append (l ++ m) l m nothing)
+          ∙ (gather-append (frame-records c) (gives (l ++ m) l nothing) (gives (l ++ m) m (later (l ++ m) l nothing))
+          ∙ ap (λ (r : List ℕ). r ++ frame-stream c (gives (l ++ m) m (later (l ++ m) l nothing))) (sym (frames-same c (agreed l m h q) nothing)));
     }

@@ -15,6 +15,7 @@ use Rattle.paper.specs.Statements.{Statement, Item, ends}
 use Rattle.paper.specs.Reader.{start, go, many}
 use Rattle.paper.specs.Give.{all-given}
 use Rattle.paper.specs.Records.{frame-stream}
+use Rattle.paper.specs.declared.Setting.{Setting}
 use Rattle.paper.proofs.Lists.{keep-append}
 use Rattle.paper.proofs.Alls.{All, all-none, all-map, keep-all, keep-none}
 use Rattle.theorems.specs.Later.{names-nested, FollowedBy, Initial, added, Later}
@@ -87,18 +88,18 @@ module _ {n : ℕ} {i k : List Item} (j : Continues n i k) where
         keep-all (λ (s : Statement). leb n (s .at)) (all-map (λ s h. le-leb n (s .at) h) b),
       ))
 
-  pub frames-joined : names-nested (ends i []) (added n (ends k [])) ≡ false
-      → Initial (frame-stream (all-given (ends i []))) (frame-stream (all-given (ends k [])))
-  frames-joined q =
-      rw ends-joined (later-statements (ends i []) (ends (j .more) []) followed-by (ap (names-nested (ends i [])) (sym added-are) ∙ q))
+  pub frames-joined : (c : Setting) → names-nested (ends i []) (added n (ends k [])) ≡ false
+      → Initial (frame-stream c (all-given (ends i []))) (frame-stream c (all-given (ends k [])))
+  frames-joined c q =
+      rw ends-joined (later-statements c (ends i []) (ends (j .more) []) followed-by (ap (names-nested (ends i [])) (sym added-are) ∙ q))
 
 -- ---- the theorem
 pub later : Later
-later t u w f d w′ f′ d′ h q =
-    let a = number-zero t w f d (h .done) in
-    let b = number-zero u w′ f′ d′ (h .done-too) in
-    let x = answered t w f d (a .0) (a .1) in
-    let y = answered u w′ f′ d′ (b .0) (b .1) in
+later c t u w f d w′ f′ d′ h q =
+    let a = number-zero c t w f d (h .done) in
+    let b = number-zero c u w′ f′ d′ (h .done-too) in
+    let x = answered c t w f d (a .0) (a .1) in
+    let y = answered c u w′ f′ d′ (b .0) (b .1) in
     let r = passed t w (x .statements) (x .passes) in
     let s = passed u w′ (y .statements) (y .passes) in
     let j =
@@ -111,5 +112,5 @@ later t u w f d w′ f′ d′ h q =
       second-are = b .1;
       frames =
           rw (← (x .are), ← (y .are), r .statements, s .statements)
-          (frames-joined j (rw (r .reads, s .reads) at q));
+          (frames-joined j c (rw (r .reads, s .reads) at q));
     }

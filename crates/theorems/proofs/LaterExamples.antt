@@ -22,6 +22,7 @@ use Rattle.paper.specs.Give.{give-c, give-v, give-d, give-f, give-e, give-asser
 use Rattle.paper.specs.Records.{le, u16, u32, string, framed, diag-record, fragment-bytes, expression-bytes, hypothesis-bytes, pair-bytes, octet, row-bytes, full-payload, frame-record, frame-records, diag-records, frame-stream, diag-stream}
 use Rattle.paper.specs.Answer.{written, outcome, answer, laid}
 use Rattle.paper.specs.Lookup.{u16-at, u32-at}
+use Rattle.paper.specs.declared.Setting.{Setting}
 use Rattle.paper.proofs.Tests.{clash}
 use Rattle.theorems.specs.Later.{names-nested, Initial, Undisturbed}
 use Rattle.theorems.specs.LaterExamples.{frames-out, LaterExamples}
@@ -30,8 +31,8 @@ use Rattle.theorems.specs.LaterExamples.{frames-out, LaterExamples}
 no-longer : {x y : List ℕ} → Initial x y → length y < length x → ⊥
 no-longer {x} {y} i h = omega (arith, ap length (i .whole), length-append x (i .more))
 
-undisturbed : {t u : List ℕ} {w f d w′ f′ d′ : ℕ} → Undisturbed t u w f d w′ f′ d′
-    → Initial (frames-out (outcome t w f d)) (frames-out (outcome u w′ f′ d′))
+undisturbed : {c : Setting} {t u : List ℕ} {w f d w′ f′ d′ : ℕ} → Undisturbed c t u w f d w′ f′ d′
+    → Initial (frames-out (outcome c t w f d)) (frames-out (outcome c u w′ f′ d′))
 undisturbed x = rw (x .first-are, x .second-are) (x .frames)
 
 pub later-examples : LaterExamples

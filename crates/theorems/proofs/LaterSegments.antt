@@ -12,6 +12,7 @@ use Rattle.paper.specs.Reader.{given}
 use Rattle.paper.specs.Segments.{base, segments, sum, segment-tokens, segment-items, looking}
 use Rattle.paper.specs.Give.{all-given}
 use Rattle.paper.specs.Records.{frame-stream}
+use Rattle.paper.specs.declared.Setting.{Setting}
 use Rattle.paper.proofs.Alls.{All, all-map}
 use Rattle.theorems.specs.Later.{names-nested, Initial, added, LaterSegments}
 use Rattle.theorems.proofs.Comments.{visible-all}
@@ -40,13 +41,13 @@ continues s m i k h e g =
       whole = b .sum ∙ ap (λ (x : List Item). x ++ b .second) (sym q);
     }
 
-further : (s m : List (List ℕ)) (l k : List Statement) → All Small s → looking s ≡ given l → looking (s ++ m) ≡ given k
-    → names-nested l (added (base (length s)) k) ≡ false → Initial (frame-stream (all-given l)) (frame-stream (all-given k))
-further s m l k h e g q =
+further : (c : Setting) (s m : List (List ℕ)) (l k : List Statement) → All Small s → looking s ≡ given l → looking (s ++ m) ≡ given k
+    → names-nested l (added (base (length s)) k) ≡ false → Initial (frame-stream c (all-given l)) (frame-stream c (all-given k))
+further c s m l k h e g q =
     let a = looked s e in
     let b = looked (s ++ m) g in
-    let c = continues s m (a .1) (b .1) h (a .2) (b .2) in
-    rw (a .3, b .3) (frames-joined c (rw (a .3, b .3) at q))
+    let d = continues s m (a .1) (b .1) h (a .2) (b .2) in
+    rw (a .3, b .3) (frames-joined d c (rw (a .3, b .3) at q))
 
 -- ---- segments laid behind others
 take-front : (n : ℕ) (t u : List ℕ) → n ≤ length t → take n (t ++ u) ≡ take n t
@@ -75,10 +76,10 @@ segments-append (n ∷ l) m t u h =
 
 -- ---- the theorem
 pub later-segments : LaterSegments
-later-segments l m t u w w′ k j e g q =
+later-segments c l m t u w w′ k j e g q =
     let a = well l t w k e in
     let b = well (l ++ m) (t ++ u) w′ j g in
     let n = segments-count l t in
-    further (segments l t) (segments m u) k j (segments-small l t (a .small)) (a .looks)
+    further c (segments l t) (segments m u) k j (segments-small l t (a .small)) (a .looks)
     (rw (segments-append l m t u (a .adds)) at (b .looks))
     (rw n q)

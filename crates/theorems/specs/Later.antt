@@ -1,5 +1,5 @@
 -- Later stock does not disturb earlier stock (A13 of document 02): what stands in a text keeps its frames when white space and
--- further statements follow. Nothing is said of diagnostics.
+-- further statements follow, under either setting `c`. Nothing is said of diagnostics.
 use mathlib.Core.Path.{_≡_}
 use mathlib.Core.Bool.{Bool, true, false}
 use mathlib.Core.List.{List, [], _∷_, _++_}
@@ -16,6 +16,7 @@ use Rattle.paper.specs.Names.{named}
 use Rattle.paper.specs.Give.{all-given}
 use Rattle.paper.specs.Records.{frame-stream}
 use Rattle.paper.specs.Answer.{Streams, number, outcome, answer}
+use Rattle.paper.specs.declared.Setting.{Setting}
 use Rattle.paper.proofs.Alls.{All}
 
 -- ---- the tokens of a nested `$v`, recorded or not; those of an outermost `$c`
@@ -60,8 +61,8 @@ pub record Initial (x y : List ℕ) : Type 0 where
 
 abbrev pub LaterStatements : Type 0
 LaterStatements =
-    (l m : List Statement) → FollowedBy l m → names-nested l m ≡ false
-    → Initial (frame-stream (all-given l)) (frame-stream (all-given (l ++ m)))
+    (c : Setting) (l m : List Statement) → FollowedBy l m → names-nested l m ≡ false
+    → Initial (frame-stream c (all-given l)) (frame-stream c (all-given (l ++ m)))
 
 -- ---- over texts
 -- the statements of a text that is read, and those of them that stand behind its first n bytes
@@ -77,34 +78,36 @@ added n l = keep (λ s. leb n (s .at)) l
 
 -- The text u is the text t, then white space, then more. Both are answered without refusal, each with a work area of its own
 -- (w and w′ words) and output buffers of its own (f and d, f′ and d′ bytes).
-pub record Followed (t u : List ℕ) (w f d w′ f′ d′ : ℕ) : Type 0 where
+pub record Followed (c : Setting) (t u : List ℕ) (w f d w′ f′ d′ : ℕ) : Type 0 where
   pub space : ℕ
   pub is-white : white space ≡ true
   pub more : List ℕ
   pub text : u ≡ t ++ (space ∷ more)
-  pub done : number (answer t w f d) ≡ 0
-  pub done-too : number (answer u w′ f′ d′) ≡ 0
+  pub done : number (answer c t w f d) ≡ 0
+  pub done-too : number (answer c u w′ f′ d′) ≡ 0
 
 -- no outermost `$c` in the added part names a token that a nested `$v` of the first part names
 abbrev pub Quiet : List ℕ → List ℕ → Type 0
 Quiet t u = names-nested (statements-of t) (added (length t) (statements-of u)) ≡ false
 
 -- the streams of both, and that the first's frames are an initial part of the second's
-pub record Undisturbed (t u : List ℕ) (w f d w′ f′ d′ : ℕ) : Type 0 where
+pub record Undisturbed (c : Setting) (t u : List ℕ) (w f d w′ f′ d′ : ℕ) : Type 0 where
   pub first : Streams
   pub second : Streams
-  pub first-are : outcome t w f d ≡ given first
-  pub second-are : outcome u w′ f′ d′ ≡ given second
+  pub first-are : outcome c t w f d ≡ given first
+  pub second-are : outcome c u w′ f′ d′ ≡ given second
   pub frames : Initial (first .frames) (second .frames)
 
 abbrev pub Later : Type 0
-Later = (t u : List ℕ) (w f d w′ f′ d′ : ℕ) → Followed t u w f d w′ f′ d′ → Quiet t u → Undisturbed t u w f d w′ f′ d′
+Later =
+    (c : Setting) (t u : List ℕ) (w f d w′ f′ d′ : ℕ) → Followed c t u w f d w′ f′ d′ → Quiet t u
+    → Undisturbed c t u w f d w′ f′ d′
 
 -- ---- over segments: those of lengths l in the buffer t; and these with further ones of lengths m, laid behind them in u
 -- Both are read without refusal, with work areas of w and w′ words; their statements are k and j. The added statements are those
 -- whose address is in a further segment
 abbrev pub LaterSegments : Type 0
 LaterSegments =
-    (l m t u : List ℕ) (w w′ : ℕ) (k j : List Statement)
+    (c : Setting) (l m t u : List ℕ) (w w′ : ℕ) (k j : List Statement)
     → segment-reading l t w ≡ well-laid (given k) → segment-reading (l ++ m) (t ++ u) w′ ≡ well-laid (given j)
-    → names-nested k (added (base (length l)) j) ≡ false → Initial (frame-stream (all-given k)) (frame-stream (all-given j))
+    → names-nested k (added (base (length l)) j) ≡ false → Initial (frame-stream c (all-given k)) (frame-stream c (all-given j))

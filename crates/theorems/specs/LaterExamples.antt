@@ -1,5 +1,5 @@
 -- A13 at work on closed texts: where its conclusion fails without the premise on `$c`, what becomes of a text that follows without
--- white space, diagnostics that are not kept, and texts that meet every premise. Work area and buffers are 1,024 long.
+-- white space, diagnostics that are not kept, and texts that meet every premise. Work area and buffers are 1,024 long; frames are full.
 use mathlib.Core.Path.{_≡_}
 use mathlib.Core.List.{List, [], _∷_, _++_}
 use Prim.Native.Nat.{ℕ}
@@ -7,6 +7,7 @@ use lib.ListN.{length}
 use Rattle.paper.specs.Base.{codes}
 use Rattle.paper.specs.Reader.{Outcome, refused, given}
 use Rattle.paper.specs.Answer.{Streams}
+use Rattle.paper.specs.declared.Setting.the-variants.{Full}
 use Rattle.paper.specs.declared.Refusal.the-variants.{BadToken}
 use Rattle.paper.specs.declared.Answer.{Answer}
 use Rattle.paper.specs.declared.Answer.the-variants.{Done, Refused}
@@ -17,7 +18,7 @@ abbrev pub room : ℕ
 room = length buffer
 
 abbrev pub Follows : List ℕ → List ℕ → Type 0
-Follows t u = Followed t u room room room room room room
+Follows t u = Followed Full t u room room room room room room
 
 abbrev pub frames-out : Outcome Streams → List ℕ
 frames-out (refused r) = []
@@ -31,7 +32,7 @@ diags-out (given s) = s .diags
 pub record Disturbs (t u : List ℕ) : Type 0 where
   pub follows : Follows t u
   pub not-quiet : Quiet t u → ⊥
-  pub fails : Undisturbed t u room room room room room room → ⊥
+  pub fails : Undisturbed Full t u room room room room room room → ⊥
 
 abbrev pub variable-first : List ℕ
 variable-first = codes "$c c $. ${ $v x $. f $f c x $. $}"

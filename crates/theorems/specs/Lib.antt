@@ -4,6 +4,7 @@ pub mod Demand3
 pub mod Examples
 pub mod Unique
 pub mod Measured
+pub mod Restricted
 pub mod Moved
 pub mod Joined
 pub mod JoinedExamples
