@@ -22,7 +22,7 @@ use Rattle.paper.specs.declared.Refusal.the-variants.{LongText}
 pub data Lent : Type 0 where
   lent : List ℕ → List ℕ → ℕ → Lent
 
--- as many words as there are tokens for
+-- segments by their bytes, and words enough
 abbrev pub pieces : List String → Lent
 pieces s = lent (map (λ x. length (codes x)) s) (gather codes s) 160
 

@@ -17,7 +17,7 @@ use Rattle.paper.specs.Give.{Given, accept, unless, with-hyp, with-disjoint, gi
 use Rattle.paper.proofs.Tests.{split}
 use Rattle.paper.proofs.Alls.{All, all-none, all-more, all-append, all-map, all-keep}
 use Rattle.paper.proofs.Gather.{map-append}
-use Rattle.theorems.specs.Moved.{moved-token, moved-statement, moved-hyp, moved-disjoint, moved-state, moved-diag, moved-hypothesis, moved-frame, moved-given, Rises, Ended, Placed, Moves}
+use Rattle.theorems.specs.Moved.{moved-token, moved-statement, moved-hyp, moved-disjoint, moved-state, moved-diag, moved-hypothesis, moved-frame, moved-given, Rises, Ended, PlacedBelow, Moves}
 use Rattle.theorems.proofs.Fold.{Carries, carries}
 use Rattle.theorems.proofs.Mapped.{keep-mapped, map-mapped}
 use Rattle.theorems.proofs.MovedNames.{plus-moved, Fair, none-moved, view-moved, outermost-moved, sense-moved, all-records-moved}
@@ -118,7 +118,7 @@ module _ {f : ℕ → ℕ} {n : ℕ} (r : Rises f n) where
         hypotheses-moved f (mandatory (v .hyps) x) (v .hyps) 0,
       )
 
-  module _ {w : List Statement} (a : All (Placed n) w) where
+  module _ {w : List Statement} (a : All (PlacedBelow n) w) where
     formula-moved : (v : State) (s : Statement)
         → formula (map (moved-statement f) w) (moved-state f v) (moved-statement f s) ≡ formula w v s
     unfolding formula
@@ -142,7 +142,7 @@ module _ {f : ℕ → ℕ} {n : ℕ} (r : Rises f n) where
         )
         (unless-moved f (check-label w s) (accept (check-expression w v s) nothing (frame-of k s v (formula w v s) ∷ [])))
 
-    give-moved : (k : Kind) (v : State) (s : Statement) → Fair n v → Placed n s
+    give-moved : (k : Kind) (v : State) (s : Statement) → Fair n v → PlacedBelow n s
         → give-by k (map (moved-statement f) w) (moved-state f v) (moved-statement f s) ≡ moved-given f (give-by k w v s)
     unfolding give-c give-v give-d give-f give-e
     give-moved $c v s h p =
@@ -170,7 +170,7 @@ module _ {f : ℕ → ℕ} {n : ℕ} (r : Rises f n) where
     give-moved $a v s h p = assertion-moved 2 v s h
     give-moved $p v s h p = assertion-moved 3 v s h
 
-    gives-moved : {l : List Statement} → All (Placed n) l → (x : State) → Fair n x
+    gives-moved : {l : List Statement} → All (PlacedBelow n) l → (x : State) → Fair n x
         → gives (map (moved-statement f) w) (map (moved-statement f) l) (moved-state f x) ≡ map (moved-given f) (gives w l x)
     unfolding gives give
     gives-moved all-none x h = refl

@@ -14,7 +14,7 @@ use Rattle.paper.specs.Checks.{Diag, each, no-token, token, label-diags, check-
 use Rattle.paper.proofs.Tests.{split}
 use Rattle.paper.proofs.Alls.{All}
 use Rattle.paper.proofs.Gather.{map-append}
-use Rattle.theorems.specs.Moved.{moved-end, moved-token, moved-statement, moved-nested, moved-hyp, moved-state, moved-diag, Rises, Placed}
+use Rattle.theorems.specs.Moved.{moved-end, moved-token, moved-statement, moved-nested, moved-hyp, moved-state, moved-diag, Rises, PlacedBelow}
 use Rattle.theorems.proofs.Mapped.{map-option}
 use Rattle.theorems.proofs.MovedNames.{owner-moved, moved-declared, float-moved, moved-verdict, same-moved, global-moved, sense-moved, verdict-moved, records-moved}
 
@@ -114,7 +114,7 @@ module _ {f : ℕ → ℕ} {n : ℕ} (r : Rises f n) where
   unfolding check-label
   label-moved w s = rw (owner-moved f w (s .label)) (label-by (owner w (s .label)) s)
 
-  module _ {w : List Statement} (a : All (Placed n) w) where
+  module _ {w : List Statement} (a : All (PlacedBelow n) w) where
     outer-one : (s i : ℕ) (t : Token)
         → outer-token (map (moved-statement f) w) (f s) i (moved-token f t) ≡ map (moved-diag f) (outer-token w s i t)
     outer-one s i t =

@@ -17,7 +17,7 @@ use Rattle.paper.specs.Checks.{Verdict, against, record-it, by-known, by-declar
 use Rattle.paper.proofs.Tests.{split, eqb-ne}
 use Rattle.paper.proofs.Alls.{All, all-map, all-of}
 use Rattle.paper.proofs.Gather.{map-append}
-use Rattle.theorems.specs.Moved.{moved-end, moved-token, moved-statement, moved-nested, moved-hyp, moved-disjoint, moved-state, Rises, Ended, Placed}
+use Rattle.theorems.specs.Moved.{moved-end, moved-token, moved-statement, moved-nested, moved-hyp, moved-disjoint, moved-state, Rises, Ended, PlacedBelow}
 use Rattle.theorems.proofs.Mapped.{map-option, keep-mapped, find-mapped, latest-mapped, gather-mapped, map-mapped}
 
 -- ---- whatever the function
@@ -147,7 +147,7 @@ module _ {f : ℕ → ℕ} {n : ℕ} (r : Rises f n) where
   unfolding outermost
   outermost-moved s h = none-moved (s .end) h
 
-  declarations-moved : (s : Statement) → Placed n s → declarations (moved-statement f s) ≡ map (moved-declared f) (declarations s)
+  declarations-moved : (s : Statement) → PlacedBelow n s → declarations (moved-statement f s) ≡ map (moved-declared f) (declarations s)
   declarations-moved s h =
       rw (outermost-moved s (h .end), by-kind-moved f (s .kind) (s .math)) (split (outermost s) (λ z. rw z) (λ z. rw z))
 
@@ -162,7 +162,7 @@ module _ {f : ℕ → ℕ} {n : ℕ} (r : Rises f n) where
       rw (less-moved (g .at) o)
       (split (ltb (g .at) o) (λ z. rw z) (λ z. rw z (split (g .constant) (λ y. rw y) (λ y. rw y))))
 
-  module _ {w : List Statement} (a : All (Placed n) w) where
+  module _ {w : List Statement} (a : All (PlacedBelow n) w) where
     pub global-moved : (m : List ℕ) → global (map (moved-statement f) w) m ≡ map-option (moved-declared f) (global w m)
     unfolding global declared
     global-moved m =

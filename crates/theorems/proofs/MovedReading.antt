@@ -15,7 +15,7 @@ use Rattle.paper.specs.Statements.{Kind, $c, $v, $d, $f, $e, $a, $p, none-end, 
 use Rattle.paper.specs.Reader.{Mode, start, named, math, proof, plain-kind, label-kind, room, least, closing, Step, go, stop, statement, shut, begin, keyword, closed, allow, with-items, many}
 use Rattle.paper.proofs.Alls.{All, all-none, all-more}
 use Rattle.paper.proofs.Gather.{map-append}
-use Rattle.theorems.specs.Moved.{moved-end, moved-token, moved-statement, Placed}
+use Rattle.theorems.specs.Moved.{moved-end, moved-token, moved-statement, PlacedBelow}
 use Rattle.theorems.proofs.Stands.{ItemAt}
 use Rattle.theorems.proofs.Texts.{Read}
 
@@ -217,7 +217,7 @@ module _ (f : ℕ → ℕ) where
     ended-low (all-more h a) e = h
 
     -- each end is below n, or none
-    pub ends-placed : {i : List Item} {l : List ℕ} → All (ItemAt (λ a. a < n)) i → All (λ a. a < n) l → All (Placed n) (ends i l)
+    pub ends-placed : {i : List Item} {l : List ℕ} → All (ItemAt (λ a. a < n)) i → All (λ a. a < n) l → All (PlacedBelow n) (ends i l)
     unfolding ends
     ends-placed all-none b = all-none
     ends-placed (all-more {x = opens p} h a) b = ends-placed a b

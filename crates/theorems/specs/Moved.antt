@@ -106,11 +106,11 @@ pub record Rises (f : ℕ → ℕ) (n : ℕ) : Type 0 where
 abbrev pub Ended : ℕ → ℕ → Type 0
 Ended n e = eqb e none-end ≡ false → e < n
 
-pub record Placed (n : ℕ) (s : Statement) : Type 0 where
+pub record PlacedBelow (n : ℕ) (s : Statement) : Type 0 where
   pub at : s .at < n
   pub end : Ended n (s .end)
 
 abbrev pub Moves : Type 0
 Moves =
-    (f : ℕ → ℕ) (n : ℕ) → Rises f n → (w : List Statement) → All (Placed n) w
+    (f : ℕ → ℕ) (n : ℕ) → Rises f n → (w : List Statement) → All (PlacedBelow n) w
     → all-given (map (moved-statement f) w) ≡ map (moved-given f) (all-given w)
