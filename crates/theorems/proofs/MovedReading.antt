@@ -1,4 +1,4 @@
--- Offsets moved by a function: comments, grammar, items and ends. The reader compares no offsets, so any function will do,
+-- Offsets moved by a function: comments, grammar, items and ends. None of them compares offsets, so any function will do,
 -- but for ends: a `$}` must not be moved from or to none.
 use mathlib.Core.Path.{_≡_, refl, sym, ap, _∙_}
 use mathlib.Core.Bool.{Bool, true, false}
