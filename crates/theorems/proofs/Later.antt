@@ -1,5 +1,5 @@
 -- A13, proved: the items of the first text are a front part of the second's, with equal ends; the rest is said of statements.
--- With segments in place of one text, `Joined` is what is to be shown of them; nothing behind it looks at bytes.
+-- With segments in place of one text, `Continues` is what is to be shown of them; nothing behind it looks at bytes.
 use mathlib.Core.Path.{_≡_, refl, sym, ap, _∙_}
 use mathlib.Core.Bool.{true, false}
 use mathlib.Core.List.{List, [], _∷_, _++_}
@@ -29,7 +29,7 @@ use Rattle.theorems.proofs.Refusals.{passed, answered, number-zero}
 use Rattle.theorems.proofs.Added.{later-statements}
 
 -- ---- items k that are the items i and more, all of which stand behind place n and close what they open
-pub record Joined (n : ℕ) (i k : List Item) : Type 0 where
+pub record Continues (n : ℕ) (i k : List Item) : Type 0 where
   pub first-tokens : List Token
   pub first-reads : Reads first-tokens start 0 i start 0
   pub first-at : All (TokenAt (λ a. a < n)) first-tokens
@@ -41,7 +41,7 @@ pub record Joined (n : ℕ) (i k : List Item) : Type 0 where
 
 -- ---- reading: a text, then white space, then more
 joined : (t : List ℕ) (b : ℕ) (m : List ℕ) (i k : List Item) → white b ≡ true → Read (tokens t) i
-    → Read (tokens (t ++ (b ∷ m))) k → Joined (length t) i k
+    → Read (tokens (t ++ (b ∷ m))) k → Continues (length t) i k
 unfolding tokens
 joined t b m i k e r s =
     let x = toks t 0 in
@@ -63,7 +63,7 @@ joined t b m i k e r s =
     }
 
 -- ---- the statements
-module _ {n : ℕ} {i k : List Item} (j : Joined n i k) where
+module _ {n : ℕ} {i k : List Item} (j : Continues n i k) where
   ends-joined : ends k [] ≡ ends i [] ++ ends (j .more) []
   ends-joined =
       ap (λ (x : List Item). ends x []) (j .whole)

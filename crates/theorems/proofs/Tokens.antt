@@ -37,7 +37,7 @@ unfolding toks
 toks-white a c b o e = rw (run-white a c b o e) (put-append o (run a o .head) (run a o .rest) (toks b (suc (o + length a))))
 
 -- ---- T3: blanks give no token
-white-32 : white 32 ≡ true
+pub white-32 : white 32 ≡ true
 unfolding white
 white-32 = refl
 

@@ -11,6 +11,7 @@ use Rattle.paper.specs.Bytes.{white}
 use Rattle.paper.specs.Tokens.{Token, tokens}
 use Rattle.paper.specs.Statements.{Kind, $c, $v, $d, $f, $e, $a, $p, Statement, outermost, Item, ends}
 use Rattle.paper.specs.Reader.{Outcome, refused, given, items}
+use Rattle.paper.specs.Segments.{base, well-laid, segment-reading}
 use Rattle.paper.specs.Names.{named}
 use Rattle.paper.specs.Give.{all-given}
 use Rattle.paper.specs.Records.{frame-stream}
@@ -101,3 +102,12 @@ abbrev pub Later : Type 0
 Later =
     (c : Setting) (t u : List ℕ) (w f d w′ f′ d′ : ℕ) → Followed c t u w f d w′ f′ d′ → Quiet t u
     → Undisturbed c t u w f d w′ f′ d′
+
+-- ---- over segments: those of lengths l in the buffer t; and these with further ones of lengths m, laid behind them in u
+-- Both are read without refusal, with work areas of w and w′ words; their statements are k and j. The added statements are those
+-- whose address is in a further segment
+abbrev pub LaterSegments : Type 0
+LaterSegments =
+    (c : Setting) (l m t u : List ℕ) (w w′ : ℕ) (k j : List Statement)
+    → segment-reading l t w ≡ well-laid (given k) → segment-reading (l ++ m) (t ++ u) w′ ≡ well-laid (given j)
+    → names-nested k (added (base (length l)) j) ≡ false → Initial (frame-stream c (all-given k)) (frame-stream c (all-given j))
