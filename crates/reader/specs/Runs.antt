@@ -47,7 +47,7 @@ pub record Running (t w v : List ℕ) (n at most first stop count : ℕ) : Type 
 -- whether a math token stands next
 abbrev pub math-next : List ℕ → Visible → Bool
 math-next t (vis.Token x c) = math-token (token-of t x)
-math-next t (vis.Refused p) = false
+math-next t (vis.Refused p l) = false
 math-next t vis.End = false
 
 pub record Ran (t w v : List ℕ) (n at most first : ℕ) (r : Run) : Type 0 where
@@ -69,6 +69,6 @@ pub record Proved (t : List ℕ) (at : ℕ) (r : Run) : Type 0 where
 
 abbrev pub closing-of : List ℕ → Visible → ℕ → ℕ → List ℕ → Closing
 closing-of t (vis.Token x c) count least key =
-    choose (and (sameb (token-of t x .bytes) key) (leb least count)) (closing.At c) (closing.Refused (BadToken (x .start)))
-closing-of t (vis.Refused r) count least key = closing.Refused r
-closing-of t vis.End count least key = closing.Refused (OpenText (length t))
+    choose (and (sameb (token-of t x .bytes) key) (leb least count)) (closing.At c) (closing.Refused (BadToken (x .start)) (x .line))
+closing-of t (vis.Refused r l) count least key = closing.Refused r l
+closing-of t vis.End count least key = closing.Refused (OpenText (length t)) 0

@@ -1,7 +1,7 @@
 // Runs of math tokens: those of a math string, kept in the math column; and what closes a run.
 // A run takes the comments in it along.
 use crate::comment::Visible;
-use crate::comment::next_visible;
+use crate::comment::next_shown;
 use area::math;
 use paper::Refusal;
 use token::cursor::Cursor;
@@ -13,6 +13,7 @@ ghost use lib.Dec.{leb, ltb};
 ghost use lib.ListN.{getD};
 ghost use Rattle.paper.specs.Base.{and};
 ghost use Rattle.token.specs.Class.{classes};
+ghost use Rattle.token.specs.Words.{Lined};
 ghost use Rattle.reader.specs.Passed.{Seen};
 ghost use Rattle.reader.specs.Runs.{RunRoom, Ran, closing-of};
 
@@ -23,10 +24,10 @@ pub struct Run {
     pub after: Visible,
 }
 
-/// How a run closes: at a keyword, with the cursor after it, or refused.
+/// How a run closes: at a keyword, with the cursor after it, or refused, with the line.
 pub enum Closing {
     At(Cursor),
-    Refused(Refusal),
+    Refused(Refusal, u64),
 }
 
 /// Whether a token goes on with a run that has `count` of at most `most` tokens.
@@ -49,13 +50,13 @@ pub fn read_run(
     most: usize,
     first: usize,
 ) -> Run
-    requires { ⌜ (now table ≡ classes) × RunRoom (now text) (now work) n (c .at) first ⌝ }
+    requires { ⌜ (now table ≡ classes) × RunRoom (now text) (now work) n (c .at) first × Lined (now text) c ⌝ }
     ensures { λ r. ⌜ Ran (now (text .entry)) (now (work .entry)) (now (work .exit)) n (c .at) most first r ⌝ }
 {
     let mut stop = c;
     let mut count: usize = 0;
     loop {
-        let after = next_visible(table, text, stop);
+        let after = next_shown(table, text, stop);
         let Visible::Token(x, d) = after else {
             return Run {
                 count: count,
@@ -84,16 +85,16 @@ pub fn close_run(text: &[u8], run: Run, least: usize, key: [u8; 2]) -> Closing
 {
     let after = run.after;
     match after {
-        Visible::End => Closing::Refused(Refusal::OpenText(text.len() as u64)),
-        Visible::Refused(x) => Closing::Refused(x),
+        Visible::End => Closing::Refused(Refusal::OpenText(text.len() as u64), 0),
+        Visible::Refused(x, l) => Closing::Refused(x, l),
         Visible::Token(x, d) => {
             let start = x.start;
             let stop = x.stop;
             if run.count < least {
-                return Closing::Refused(Refusal::BadToken(start as u64));
+                return Closing::Refused(Refusal::BadToken(start as u64), x.line);
             }
             if !is_key(&text[start..stop], key) {
-                return Closing::Refused(Refusal::BadToken(start as u64));
+                return Closing::Refused(Refusal::BadToken(start as u64), x.line);
             }
             Closing::At(d)
         }

@@ -30,10 +30,10 @@ pub struct Head {
     pub from: Cursor,
 }
 
-/// What reading one item gives: the state after it, a refusal, or the end of the text.
+/// What reading one item gives: the state after it, a refusal and its line, or the end of the text.
 pub enum Turn {
     Next(State),
-    Refused(Refusal),
+    Refused(Refusal, u64),
     End,
 }
 
