@@ -139,7 +139,7 @@ proving-on {t} {at} {stop} {s} h y =
 pub not-token : (t : List ℕ) (v : Visible) → (tagOf the-type v ≡ 1) ⊎ (tagOf the-type v ≡ 2) → math-next t v ≡ false
 not-token t (vis.Token x c) (inl e) = absurd (omega (arith, e))
 not-token t (vis.Token x c) (inr e) = absurd (omega (arith, e))
-not-token t (vis.Refused p) e = refl
+not-token t (vis.Refused p l) e = refl
 not-token t vis.End e = refl
 
 pub not-math : {t : List ℕ} {stop : ℕ} {x : Span} {c : Cursor} → Shows t stop x c → x .least < 3 → math-token (token-of t x) ≡ false
