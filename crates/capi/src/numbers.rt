@@ -4,10 +4,21 @@ use paper::Answer;
 use paper::Found;
 use paper::Measured;
 use paper::Refusal;
+use paper::Setting;
 ghost use mathlib.Core.Path.{_≡_};
 ghost use Rattle.paper.specs.Answer.{refusal-number, refusal-place, measured-number, number};
 ghost use Rattle.paper.specs.Lookup.{found-number, found-place};
-ghost use Rattle.capi.specs.Promise.{eight, measured-words, written-words};
+ghost use Rattle.capi.specs.Promise.{setting-of, eight, measured-words, written-words};
+
+/// The setting of a number: 0 for short frames, any other for full ones.
+pub fn setting_of(full: u32) -> Setting
+    ensures { λ r. ⌜ r ≡ setting-of full ⌝ }
+{
+    if full == 0 {
+        return Setting::Short;
+    }
+    Setting::Full
+}
 
 /// Numbers 1 to 9.
 fn refusal_number(refusal: Refusal) -> u32
@@ -43,11 +54,11 @@ fn refusal_place(refusal: Refusal) -> u64
     }
 }
 
-/// What comes of a refusal: its number; its place is the first word, and the others are 0.
-fn tell_refusal(refusal: Refusal, answer: &mut [u64; 8]) -> u32
-    ensures { λ r. ⌜ (r ≡ refusal-number refusal) × (now (answer .exit) ≡ eight (refusal-place refusal) 0 0 0) ⌝ }
+/// What comes of a refusal: its number; its place is the first word, its line the third, and the others are 0.
+fn tell_refusal(refusal: Refusal, line: u64, answer: &mut [u64; 8]) -> u32
+    ensures { λ r. ⌜ (r ≡ refusal-number refusal) × (now (answer .exit) ≡ eight (refusal-place refusal) line 0 0 0) ⌝ }
 {
-    *answer = [refusal_place(refusal), 0, 0, 0, 0, 0, 0, 0];
+    *answer = [refusal_place(refusal), 0, line, 0, 0, 0, 0, 0];
     refusal_number(refusal)
 }
 
@@ -60,7 +71,7 @@ pub fn tell_measured(measured: Measured, answer: &mut [u64; 8]) -> u32
             *answer = [0, 0, 0, frames, diags, 0, count, 0];
             0
         }
-        Measured::Refused(refusal) => tell_refusal(refusal, answer),
+        Measured::Refused(refusal, line) => tell_refusal(refusal, line, answer),
     }
 }
 
@@ -73,7 +84,7 @@ pub fn tell_written(written: Answer, answer: &mut [u64; 8]) -> u32
             *answer = [0, 0, 0, frames_used, diags_used, 0, count, 0];
             0
         }
-        Answer::Refused(refusal) => tell_refusal(refusal, answer),
+        Answer::Refused(refusal, line) => tell_refusal(refusal, line, answer),
     }
 }
 

@@ -9,7 +9,7 @@ use native.Mathlib.Omega.{arith}
 use lib.Dec.{eqb, ltb}
 use lib.ListN.{length, getD, set, length-set, take, drop, length-append, length-drop, take-append-drop}
 use lib.Seq.{take-at, drop-at, drop-drop, length-take-le}
-use borrow.Author.Tests.{eq-eqb, ne-eqb, ltb-true}
+use borrow.Author.Tests.{eq-eqb, ne-eqb, lt-ltb, ltb-true}
 use Rattle.paper.specs.Base.{and, not, all, gather}
 use Rattle.paper.specs.Answer.{laid}
 use Rattle.paper.specs.Pairs.{Pair, pair}
@@ -24,9 +24,9 @@ use Rattle.stream.proofs.Records.{length-u16}
 use Rattle.stream.proofs.Rows.{row-width, Wide, lit-up, wide-lit}
 use Rattle.stream.proofs.Setting.{wrote-row-bit, wrote-row-set}
 use Rattle.disjoint.specs.declared.draw.Grid.{Grid}
-use Rattle.disjoint.specs.Found.{both, proper, meets}
+use Rattle.disjoint.specs.Found.{both, distinct, meets}
 use Rattle.disjoint.specs.Drawn.{once, square, Drawing}
-use Rattle.disjoint.proofs.Square.{length-square, wide-square, bit-square, square-more, square-again, once-again, once-out, once-in, once-prefix, length-pairs}
+use Rattle.disjoint.proofs.Square.{length-square, wide-square, bit-square, square-more, square-again, square-beyond, once-again, once-out, once-in, once-prefix, length-pairs}
 use Rattle.disjoint.proofs.Bools.{and-left, and-right}
 
 -- ---- bytes laid before others that are laid
@@ -108,21 +108,70 @@ unfolding all
 all-middle t [] x r e = split (t x) (λ q. q) (λ q. absurd (clash (sym (rw q at e))))
 all-middle t (y ∷ l) x r e = split (t y) (λ q. all-middle t l x r (rw q at e)) (λ q. absurd (clash (sym (rw q at e))))
 
+both-fewer : (m v x y : ℕ) → m ≤ v → both v (pair x y) ≡ false → both m (pair x y) ≡ false
+both-fewer m v x y h e =
+    split (both m (pair x y))
+    (λ q.
+    let l = ltb-true x m (and-left (ltb x m) (ltb y m) q) in
+    let r = ltb-true y m (and-right (ltb x m) (ltb y m) q) in
+    absurd (clash (sym (rw (lt-ltb x v (omega (arith, l)), lt-ltb y v (omega (arith, r)))) ∙ e)))
+    (λ q. q)
+
 pub record Next (x y v : ℕ) : Type 0 where
   pub left : x < v
   pub right : y < v
   pub differ : x ≢ y
 
 module _ {a b : List ℕ} {from at v : ℕ} {g : Grid} {s : List Pair} (x y : ℕ) (rest : List Pair) (d : Drawing a b from at v g s (pair x y ∷ rest)) where
-  pub next-pair : Next x y v
-  next-pair =
-      let e : proper v (pair x y) ≡ true = all-middle (proper v) (d .done) (pair x y) rest (ap (all (proper v)) (d .sum) ∙ d .proper-pairs) in
-      let f : and (ltb x v) (ltb y v) ≡ true = and-left (and (ltb x v) (ltb y v)) (not (eqb x y)) e in
+  differ-next : x ≢ y
+  differ-next q =
+      let e : not (eqb x y) ≡ true = all-middle distinct (d .done) (pair x y) rest (ap (all distinct) (d .sum) ∙ d .distinct-pairs) in
+      clash (sym e ∙ ap not (eq-eqb x y q))
+
+  sum-next : (d .done ++ (pair x y ∷ [])) ++ rest ≡ s
+  sum-next = append-assoc (d .done) (pair x y ∷ []) rest ∙ d .sum
+
+  -- a variable without a row: nothing is drawn
+  once-beyond : both v (pair x y) ≡ false → once (g .mandatory) (d .done ++ (pair x y ∷ [])) ≡ once (g .mandatory) (d .done)
+  unfolding meets
+  once-beyond e =
+      split (meets (d .done) x y)
+      (λ q. once-again (g .mandatory) (d .done) (pair x y) q)
+      (λ q. once-out (g .mandatory) (d .done) (pair x y) q (both-fewer (g .mandatory) v x y (d .mandatory) e))
+
+  pub draw-beyond : both v (pair x y) ≡ false → Drawing a b from at v g s rest
+  draw-beyond e =
       record {
-        left = ltb-true x v (and-left (ltb x v) (ltb y v) f);
-        right = ltb-true y v (and-right (ltb x v) (ltb y v) f);
-        differ = λ q. clash (sym (and-right (and (ltb x v) (ltb y v)) (not (eqb x y)) e) ∙ ap not (eq-eqb x y q));
+        done = d .done ++ (pair x y ∷ []);
+        sum = sum-next;
+        mid = d .mid;
+        pairs = wrote-as (d .pairs) (ap (gather pair-bytes) (once-beyond e));
+        rows = wrote-as (d .rows) (ap (gather row-bytes) (square-beyond (d .done) x y v e));
+        fits = d .fits;
+        width = d .width;
+        size = d .size;
+        mandatory = d .mandatory;
+        few = d .few;
+        place = d .place;
+        room = d .room;
+        distinct-pairs = d .distinct-pairs;
       }
+
+  -- no sum wraps
+  pub place-below : at ≤ g .at
+  place-below =
+      omega (
+        arith,
+        d .pairs .place,
+        length-pairs (once (g .mandatory) (d .done)),
+        d .room,
+        once-prefix (g .mandatory) (d .done) (pair x y ∷ rest),
+        ap (λ t. length (once (g .mandatory) t)) (d .sum),
+      )
+
+module _ {a b : List ℕ} {from at v : ℕ} {g : Grid} {s : List Pair} (x y : ℕ) (rest : List Pair) (d : Drawing a b from at v g s (pair x y ∷ rest)) (left : x < v) (right : y < v) where
+  next-pair : Next x y v
+  next-pair = record { left = left; right = right; differ = differ-next x y rest d }
 
   -- the rows lie at whole numbers of bytes
   end-is : g .at + v * g .width ≡ g .at + v * row-width v
@@ -143,9 +192,6 @@ module _ {a b : List ℕ} {from at v : ℕ} {g : Grid} {s : List Pair} (x y : �
       ∙ bit-square (d .done) v x y (n .left) (n .right)
       ∙ rw (ne-eqb x y (n .differ))
 
-  sum-next : (d .done ++ (pair x y ∷ [])) ++ rest ≡ s
-  sum-next = append-assoc (d .done) (pair x y ∷ []) rest ∙ d .sum
-
   -- it was found before
   pub draw-old : bit-at b (g .at + x * g .width) y ≡ true → Drawing a b from at v g s rest
   unfolding meets
@@ -153,16 +199,18 @@ module _ {a b : List ℕ} {from at v : ℕ} {g : Grid} {s : List Pair} (x y : �
       let q : meets (d .done) x y ≡ true = sym pair-met ∙ e in
       record {
         done = d .done ++ (pair x y ∷ []);
-        sum = sum-next;
+        sum = sum-next x y rest d;
         mid = d .mid;
         pairs = wrote-as (d .pairs) (ap (gather pair-bytes) (once-again (g .mandatory) (d .done) (pair x y) q));
         rows = wrote-as (d .rows) (ap (gather row-bytes) (square-again (d .done) x y v q));
         fits = d .fits;
         width = d .width;
+        size = d .size;
+        mandatory = d .mandatory;
         few = d .few;
         place = d .place;
         room = d .room;
-        proper-pairs = d .proper-pairs;
+        distinct-pairs = d .distinct-pairs;
       }
 
   -- its bits are set
@@ -197,16 +245,18 @@ module _ {a b : List ℕ} {from at v : ℕ} {g : Grid} {s : List Pair} (x y : �
     draw-out f =
         record {
           done = d .done ++ (pair x y ∷ []);
-          sum = sum-next;
+          sum = sum-next x y rest d;
           mid = d .mid;
           pairs = wrote-as (d .pairs) (ap (gather pair-bytes) (once-out (g .mandatory) (d .done) (pair x y) unmet f));
           rows = rows-next;
           fits = d .fits;
           width = d .width;
+          size = d .size;
+          mandatory = d .mandatory;
           few = d .few;
           place = d .place;
           room = d .room;
-          proper-pairs = d .proper-pairs;
+          distinct-pairs = d .distinct-pairs;
         }
 
     -- both are, and the pair is written
@@ -231,12 +281,12 @@ module _ {a b : List ℕ} {from at v : ℕ} {g : Grid} {s : List Pair} (x y : �
           ap length n,
           length-append (once (g .mandatory) (d .done)) (pair x y ∷ []),
           once-prefix (g .mandatory) (d .done ++ (pair x y ∷ [])) rest,
-          ap (λ t. length (once (g .mandatory) t)) sum-next,
+          ap (λ t. length (once (g .mandatory) t)) (sum-next x y rest d),
         ) in
         let i : g .at + v * g .width ≤ length (d .mid) = omega (arith, d .fits, d .pairs .len) in
         record {
           done = d .done ++ (pair x y ∷ []);
-          sum = sum-next;
+          sum = sum-next x y rest d;
           mid = laid (d .mid) at (u16 x ++ u16 y);
           pairs = wrote-as (wrote-then (d .pairs) (wrote-first rows-next w h i))
               (ap (gather pair-bytes) n
@@ -245,20 +295,10 @@ module _ {a b : List ℕ} {from at v : ℕ} {g : Grid} {s : List Pair} (x y : �
           rows = wrote-after rows-next w h i;
           fits = d .fits;
           width = d .width;
+          size = d .size;
+          mandatory = d .mandatory;
           few = d .few;
           place = d .place;
           room = d .room;
-          proper-pairs = d .proper-pairs;
+          distinct-pairs = d .distinct-pairs;
         }
-
-  -- no sum wraps
-  pub place-below : at ≤ g .at
-  place-below =
-      omega (
-        arith,
-        d .pairs .place,
-        length-pairs (once (g .mandatory) (d .done)),
-        d .room,
-        once-prefix (g .mandatory) (d .done) (pair x y ∷ rest),
-        ap (λ t. length (once (g .mandatory) t)) (d .sum),
-      )
