@@ -7,6 +7,8 @@ use Rattle.paper.specs.Base.{codes}
 use Rattle.paper.specs.Tokens.{tokens}
 use Rattle.paper.specs.Lines.{feeds, line-at}
 use Rattle.paper.specs.Answer.{number, place, line, measured-line, measured, measuring, measure, answer}
+use Rattle.paper.specs.declared.Setting.{Setting}
+use Rattle.paper.specs.declared.Setting.the-variants.{Short, Full}
 use Rattle.paper.proofs.Table.{operation}
 
 -- number, place and line of the writer, and the line of the measure
@@ -20,12 +22,12 @@ pub data Case : Type 0 where
 abbrev pub expected : Case → Told
 expected (told-in t w x) = x
 
-unfoldable pub telling : List ℕ → ℕ → Told
+unfoldable pub telling : Setting → List ℕ → ℕ → Told
 unfolding operation measured measuring measure feeds line-at
-telling t w = let a = answer t w 0 0 in told (number a) (place a) (line a) (measured-line (measure t w))
+telling c t w = let a = answer c t w 0 0 in told (number a) (place a) (line a) (measured-line (measure c t w))
 
-abbrev pub computed : Case → Told
-computed (told-in t w x) = telling t w
+abbrev pub computed : Setting → Case → Told
+computed c (told-in t w x) = telling c t w
 
 abbrev pub cases : List Case
 cases =
@@ -55,9 +57,13 @@ cases =
     told-in (codes "$c c $. p $p c $=" ++ (10 ∷ codes "?" ++ (10 ∷ codes "$. $}"))) 176 (told 5 23 3 3) ∷
     []
 
-pub lines : map computed cases ≡ map expected cases
+pub lines : map (computed Full) cases ≡ map expected cases
 unfolding telling
 lines = refl
+
+pub short-lines : map (computed Short) cases ≡ map expected cases
+unfolding telling
+short-lines = refl
 
 -- ---- the lines of tokens
 unfoldable pub token-lines : List ℕ → List ℕ
