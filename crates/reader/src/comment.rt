@@ -220,17 +220,3 @@ pub fn next_visible(table: &[u8; 256], text: &[u8], c: Cursor) -> Visible
         }
     }
 }
-
-/// The same as `next_visible`, with a math token found at once.
-pub fn next_shown(table: &[u8; 256], text: &[u8], c: Cursor) -> Visible
-    requires { ⌜ (now table ≡ classes) × Lined (now text) c ⌝ }
-    ensures { λ r. ⌜ Seen (now (text .entry)) (c .at) r ⌝ }
-{
-    let Next::Token(x, d) = c.next(table, text) else {
-        return Visible::End;
-    };
-    if 3 <= x.least {
-        return Visible::Token(x, d);
-    }
-    next_visible(table, text, c)
-}

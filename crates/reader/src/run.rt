@@ -1,27 +1,35 @@
 // Runs of math tokens: those of a math string, kept in the math column; and what closes a run.
 // A run takes the comments in it along.
 use crate::comment::Visible;
-use crate::comment::next_shown;
+use crate::comment::next_visible;
 use area::math;
 use paper::Refusal;
 use token::cursor::Cursor;
+use token::cursor::Next;
 use token::cursor::Span;
 use token::cursor::is_key;
 ghost use mathlib.Core.Path.{_≡_};
 ghost use mathlib.Core.List.{[], _∷_};
+ghost use Prim.Native.Nat.{_+_};
 ghost use lib.Dec.{leb, ltb};
 ghost use lib.ListN.{getD};
 ghost use Rattle.paper.specs.Base.{and};
 ghost use Rattle.token.specs.Class.{classes};
 ghost use Rattle.token.specs.Words.{Lined};
 ghost use Rattle.reader.specs.Passed.{Seen};
-ghost use Rattle.reader.specs.Runs.{RunRoom, Ran, closing-of};
+ghost use Rattle.reader.specs.Runs.{RunRoom, Stretched, Ran, closing-of};
 
 /// A run of math tokens: how many, the cursor after the last, and what stands next.
 pub struct Run {
     pub count: usize,
     pub stop: Cursor,
     pub after: Visible,
+}
+
+/// How far a run has come: how many tokens, and the cursor after the last.
+pub struct Stretch {
+    pub count: usize,
+    pub stop: Cursor,
 }
 
 /// How a run closes: at a keyword, with the cursor after it, or refused, with the line.
@@ -40,6 +48,42 @@ pub fn takes(x: Span, count: usize, most: usize) -> bool
     count < most
 }
 
+/// Goes on with a run that has `from` tokens, at `c`, over the math tokens that stand next with no comment between.
+pub fn read_stretch(
+    table: &[u8; 256],
+    text: &[u8],
+    work: &mut [u32],
+    n: usize,
+    c: Cursor,
+    most: usize,
+    first: usize,
+    from: usize,
+) -> Stretch
+    requires { ⌜ (now table ≡ classes) × RunRoom (now text) (now work) n (c .at) (first + from) × Lined (now text) c ⌝ }
+    ensures { λ r. ⌜ Stretched (now (text .entry)) (now (work .entry)) (now (work .exit)) n most first c from r ⌝ }
+{
+    let mut stop = c;
+    let mut count = from;
+    loop {
+        let Next::Token(x, d) = stop.next(table, text) else {
+            return Stretch {
+                count: count,
+                stop: stop,
+            };
+        };
+        if !takes(x, count, most) {
+            return Stretch {
+                count: count,
+                stop: stop,
+            };
+        }
+        let cell = math(n, first + count);
+        work[cell] = x.start as u32;
+        count += 1;
+        stop = d;
+    }
+}
+
 /// The longest run of at most `most` math tokens from `c` on; their offsets stand in the math column from `first` on.
 pub fn read_run(
     table: &[u8; 256],
@@ -56,7 +100,10 @@ pub fn read_run(
     let mut stop = c;
     let mut count: usize = 0;
     loop {
-        let after = next_shown(table, text, stop);
+        let plain = read_stretch(table, text, work, n, stop, most, first, count);
+        stop = plain.stop;
+        count = plain.count;
+        let after = next_visible(table, text, stop);
         let Visible::Token(x, d) = after else {
             return Run {
                 count: count,

@@ -4,7 +4,7 @@ use crate::class::class_of;
 ghost use mathlib.Core.Path.{_≡_};
 ghost use mathlib.Core.List.{[], _∷_};
 ghost use lib.ListN.{length, getD};
-ghost use Prim.Native.Nat.{_≤_};
+ghost use Prim.Native.Nat.{_+_, _<_, _≤_};
 ghost use Rattle.paper.specs.Base.{sameb};
 ghost use Rattle.paper.specs.Lines.{feed, line-at};
 ghost use Rattle.token.specs.Class.{classes, lower};
@@ -55,12 +55,12 @@ pub fn is_key(s: &[u8], key: [u8; 2]) -> bool
     s[1] == key[1]
 }
 
-/// Where a token starts and stops, the least class of its bytes (4 for a label token, 3 or 4 for a math token), and its line.
+/// Where a token starts and stops, its line, and the least class of its bytes: 4 for a label token, 3 or 4 for a math token.
 pub struct Span {
     pub start: usize,
     pub stop: usize,
-    pub least: u8,
     pub line: u64,
+    pub least: u8,
 }
 
 /// A place in a text, and its line.
@@ -83,10 +83,32 @@ pub fn lower_of(a: u8, b: u8) -> u8
 }
 
 /// 1 for a line feed, 0 for any other byte.
-pub fn feed_bit(b: u8) -> u64
+pub fn feed_bit(b: u8) -> u8
     ensures { λ r. ⌜ (r ≡ feed b) × (r ≤ 1) ⌝ }
 {
     if b == FEED { 1 } else { 0 }
+}
+
+/// How far a hop from `at` to `to` goes at once: at most 32,768 bytes.
+pub fn leg_end(at: usize, to: usize) -> usize
+    requires { ⌜ at < to ⌝ }
+    ensures { λ r. ⌜ (at < r) × (r ≤ to) × (r ≤ at + 32768) ⌝ }
+{
+    if to - at < 32768 { to } else { at + 32768 }
+}
+
+/// How many line feeds stand from `at` up to `to`: so few that 16 bits hold them, and the back end counts many bytes at once.
+pub fn feeds_between(text: &[u8], at: usize, to: usize) -> u16
+    requires { ⌜ (at ≤ to) × (to ≤ length (now text)) × (to ≤ at + 32768) ⌝ }
+    ensures { λ r. ⌜ (line-at (now (text .entry)) at + r ≡ line-at (now (text .entry)) to) × (r ≤ 32768) ⌝ }
+{
+    let mut sum: u16 = 0;
+    let mut i = at;
+    while i < to {
+        sum += feed_bit(text[i]) as u16;
+        i += 1;
+    }
+    sum
 }
 
 /// The start of a text.
@@ -105,8 +127,9 @@ impl Cursor {
         let mut at = self.at;
         let mut line = self.line;
         while at < to {
-            line += feed_bit(text[at]);
-            at += 1;
+            let stop = leg_end(at, to);
+            line += feeds_between(text, at, stop) as u64;
+            at = stop;
         }
         Cursor { at: to, line: line }
     }
@@ -125,7 +148,7 @@ impl Cursor {
                 self.line = line;
                 return self;
             }
-            line += feed_bit(b);
+            line += feed_bit(b) as u64;
             at += 1;
         }
         self.at = at;
@@ -148,8 +171,8 @@ impl Cursor {
                 return Span {
                     start: start,
                     stop: at,
-                    least: least,
                     line: line,
+                    least: least,
                 };
             }
             least = lower_of(least, c);
@@ -158,8 +181,8 @@ impl Cursor {
         Span {
             start: start,
             stop: at,
-            least: least,
             line: line,
+            least: least,
         }
     }
 

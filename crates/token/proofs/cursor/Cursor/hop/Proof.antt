@@ -1,15 +1,15 @@
-use mathlib.Core.Path.{_≡_, refl, sym, ap, _∙_}
+use mathlib.Core.Path.{_≡_, refl, ap, _∙_}
 use Prim.Native.Nat.{_-_, _≤_}
 use native.Mathlib.Omega.{arith}
-use lib.ListN.{length}
 use Rattle.paper.specs.Lines.{line-at}
-use Rattle.token.proofs.Lines.{line-step, line-few}
+use Rattle.token.proofs.Lines.{line-few}
 use borrow.Author.Needs.{needs}
 use Rattle.token.proofs.cursor.Cursor.hop.Statement.{statement}
 use Rattle.token.proofs.cursor.Cursor.hop.Tie as tie
 use Rattle.token.proofs.cursor.Cursor.hop.Reads as reads
 use Rattle.token.proofs.cursor.Cursor.hop.Lts as lts
-use Rattle.token.proofs.cursor.feed_bit.Reads as feed-bit-reads
+use Rattle.token.proofs.cursor.feeds_between.Reads as feeds-between-reads
+use Rattle.token.proofs.cursor.leg_end.Reads as leg-end-reads
 
 abbrev Inv-loop : tie.InvT-loop
 Inv-loop text to at₀ line₀ at line = (at ≤ to) × (line ≡ line-at text at)
@@ -18,7 +18,7 @@ abbrev μ-loop : tie.MeasureT-loop
 μ-loop text to at₀ line₀ at line = to - at
 
 -- own --
-abbrev head : tie.After-feed-bit Inv-loop μ-loop → tie.At-loop Inv-loop μ-loop
+abbrev head : tie.After-feeds-between Inv-loop μ-loop → tie.At-loop Inv-loop μ-loop
 head c = c .before .before .before
 
 -- end own --
@@ -26,23 +26,23 @@ head c = c .before .before .before
 loop-holds : tie.Need-loop-holds Inv-loop μ-loop
 loop-holds c = (search needs, c .before .pre .0)
 
-shared-slice-read-feed-bit : tie.Need-shared-slice-read-feed-bit Inv-loop μ-loop
-shared-slice-read-feed-bit c = search needs
+leg-end-requires : tie.Need-leg-end-requires Inv-loop μ-loop
+leg-end-requires c κs = search needs
 
-feed-bit-requires : tie.Need-feed-bit-requires Inv-loop μ-loop
-feed-bit-requires c κs = search needs
+feeds-between-requires : tie.Need-feeds-between-requires Inv-loop μ-loop
+feeds-between-requires c κs = search needs
+
+cast-line : tie.Need-cast-line Inv-loop μ-loop
+cast-line c = search needs
 
 add-line : tie.Need-add-line Inv-loop μ-loop
-add-line c = omega (arith, c .feed-bit .ensures .1, head c .loop .inv .1, line-few (head c .before .before .args .text .now) (head c .loop .at) (search needs), head c .before .before .good)
-
-add-at : tie.Need-add-at Inv-loop μ-loop
-add-at c = search needs
+add-line c = omega (arith, c .feeds-between .ensures .0, head c .loop .inv .1, line-few (head c .before .before .args .text .now) (c .before .leg-end .result) (search needs), head c .before .before .good)
 
 loop-less : tie.Need-loop-less Inv-loop μ-loop
 loop-less c = search needs
 
 loop-again : tie.Need-loop-again Inv-loop μ-loop
-loop-again c = (search needs, rw (c .feed-bit .ensures .0, head c .loop .inv .1) (sym (line-step _ _ (search needs))))
+loop-again c = (search needs, rw (head c .loop .inv .1) (c .feeds-between .ensures .0))
 
 returns : tie.Need-returns Inv-loop μ-loop
 returns c =
@@ -56,10 +56,10 @@ hop-spec =
     Inv-loop
     μ-loop
     loop-holds
-    shared-slice-read-feed-bit
-    feed-bit-requires
+    leg-end-requires
+    feeds-between-requires
+    cast-line
     add-line
-    add-at
     loop-less
     loop-again
     returns)

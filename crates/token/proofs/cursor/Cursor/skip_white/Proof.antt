@@ -42,6 +42,9 @@ returns c = (sym (gap-stop _ _ (search needs) (not-white _ (c .before .class-of 
 feed-bit-requires : tie.Need-feed-bit-requires Inv-loop μ-loop
 feed-bit-requires c κs = search needs
 
+cast-line : tie.Need-cast-line Inv-loop μ-loop
+cast-line c = search needs
+
 add-line : tie.Need-add-line Inv-loop μ-loop
 add-line c = omega (arith, c .feed-bit .ensures .1, head c .loop .inv .1, line-few (head c .before .before .args .text .now) (head c .loop .at) (search needs), head c .before .before .good)
 
@@ -68,6 +71,7 @@ skip-white-spec =
     class-of-requires
     returns
     feed-bit-requires
+    cast-line
     add-line
     add-at
     loop-less
