@@ -6,7 +6,7 @@ import types
 
 MODEL = pathlib.Path(__file__).resolve().parent / "model"
 # the landed requests that change what a text is answered
-LANDED = ["a2_comments", "a8_short_frames"]
+LANDED = ["a2_comments", "a6_lines", "a8_short_frames"]
 
 
 def load():
