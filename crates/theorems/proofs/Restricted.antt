@@ -19,17 +19,17 @@ use Rattle.theorems.specs.Restricted.{short-of, Restricted}
 use Rattle.theorems.proofs.Lengths.{u16-length, row-length, rest-of}
 
 -- ---- what is seen comes after what is there
-record After (l m : List (List ℕ)) : Type 0 where
+record SeenAfter (l m : List (List ℕ)) : Type 0 where
   more : List (List ℕ)
   is : m ≡ l ++ more
 
-see-after : (l : List (List ℕ)) (n : List ℕ) → After l (see l n)
+see-after : (l : List (List ℕ)) (n : List ℕ) → SeenAfter l (see l n)
 see-after l n =
     split (member n l)
     (λ e. rw e (record { more = []; is = sym (append-nil l) }))
     (λ e. rw e (record { more = n ∷ []; is = refl }))
 
-sights-after : (n l : List (List ℕ)) → After l (sights n l)
+sights-after : (n l : List (List ℕ)) → SeenAfter l (sights n l)
 unfolding sights
 sights-after [] l = record { more = []; is = sym (append-nil l) }
 sights-after (x ∷ n) l =
