@@ -15,6 +15,7 @@ use Rattle.paper.proofs.Slips as slips
 use Rattle.paper.proofs.Readings as readings
 use Rattle.paper.proofs.Measures as measures
 use Rattle.paper.proofs.Shorts as shorts
+use Rattle.theorems.specs.Groups.{blanked}
 use Rattle.theorems.specs.Unique.{Allowed}
 use Rattle.theorems.proofs.Unique.{unique-measure, unique}
 use Rattle.theorems.proofs.Measured.{measured-fits}

@@ -53,13 +53,13 @@ by-sizes : {e : Setting} {g : List Given} {p q c : ℕ} → Sized e g (folded.St
 by-sizes (sized e x y n) = record { few = e; frames = x; diags = y; count = n }
 
 -- ---- the measure: numbers 7 and 0
-needs-many : {c : Setting} {t : List ℕ} (g : List Given) {s : StatementOffset} → Sized c g (folded.TooMany s) → lengths.Refused (ManyVariables (s .0)) 0 ≡ needs-of t (measured c g)
+needs-many : {c : Setting} (t : List ℕ) (g : List Given) {s : StatementOffset} → Sized c g (folded.TooMany s) → lengths.Refused (ManyVariables (s .0)) 0 ≡ needs-of t (measured c g)
 unfolding measured
-needs-many g (crowd x e) = rw e
+needs-many t g (crowd x e) = rw e
 
-needs-done : {e : Setting} {t : List ℕ} (g : List Given) {p q c : ℕ} → Lengths e g p q c → lengths.Needs p q c ≡ needs-of t (measured e g)
+needs-done : {e : Setting} (t : List ℕ) (g : List Given) {p q c : ℕ} → Lengths e g p q c → lengths.Needs p q c ≡ needs-of t (measured e g)
 unfolding measured
-needs-done g s = rw (s .few, s .frames, s .diags, s .count)
+needs-done t g s = rw (s .few, s .frames, s .diags, s .count)
 
 -- ---- the writer: number 7
 gives-many : {c : Setting} {t : List ℕ} (g : List Given) {f d : List ℕ} {s : StatementOffset} → Sized c g (folded.TooMany s) → Gives c t g f f d d (Refused (ManyVariables (s .0)) 0)
@@ -97,7 +97,7 @@ gives-done {c} {t} g {f} {d = d} s h k (fold.streams e x y n) =
 module _ {e : Setting} {t w v u : List ℕ} {rows : ℕ} {s : Started} (a : Starts t w v rows s) where
   module _ {o : StatementOffset} (z : Sizes e t v u (s .n) rows (s .names) (folded.TooMany o)) where
     pub needs-refused : Needed e t w rows (lengths.Refused (ManyVariables (o .0)) 0)
-    needs-refused = record { sim = λ {l} h. needs-many (all-given l) (z .sim (a .sim h) .1) }
+    needs-refused = record { sim = λ {l} h. needs-many t (all-given l) (z .sim (a .sim h) .1) }
 
     pub many : {f d : List ℕ} → Answered e t w rows f f d d (Refused (ManyVariables (o .0)) 0)
     many = record { sim = λ {l} h. gives-many (all-given l) (z .sim (a .sim h) .1) }
@@ -107,7 +107,7 @@ module _ {e : Setting} {t w v u : List ℕ} {rows : ℕ} {s : Started} (a : Star
     lengths-of h = by-sizes (z .sim (a .sim h) .1)
 
     pub needs-given : Needed e t w rows (lengths.Needs p q c)
-    needs-given = record { sim = λ {l} h. needs-done (all-given l) (lengths-of h) }
+    needs-given = record { sim = λ {l} h. needs-done t (all-given l) (lengths-of h) }
 
     pub short-frames : {f d : List ℕ} → length f < p → Answered e t w rows f f d d (Refused (ShortFrames p) 0)
     short-frames h = record { sim = λ {l} x. gives-short-frames (all-given l) (lengths-of x) h }
