@@ -25,18 +25,20 @@ extern "C" {
  *   8  frame buffer too short; the bytes needed (writer only)
  *   9  diagnostics buffer too short; the bytes needed (writer only)
  *
- * and write eight numbers into answer:
+ * Numbers 3, 4 and 5 also have a line: one more than the count of byte 10 before the place. All other numbers have line 0.
+ *
+ * Both write eight numbers into answer:
  *
  *   answer[0]  the place
  *   answer[1]  0
- *   answer[2]  0
+ *   answer[2]  the line
  *   answer[3]  bytes of the frame stream
  *   answer[4]  bytes of the diagnostics stream
  *   answer[5]  0
  *   answer[6]  number of frames: the records of the frame stream
  *   answer[7]  0
  *
- * If the number is not 0, all but the place are 0.
+ * If the number is not 0, all but the place and the line are 0.
  *
  * text, text_length      the bytes to check; only read
  * work, work_length      32-bit words to work in, and how many (words, not bytes). What they hold before means nothing;

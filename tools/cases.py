@@ -1,6 +1,6 @@
 """Cases of vectors: one a line, what is lent before the lone `=`, what is answered after it (vectors/README.md says the keys).
 
-The lines of the older files, texts of nine fields and look-ups of five, are read as the cases that they are, with full frames.
+The lines of the older files, texts of nine fields and look-ups of five, are read as the cases that they are, with full frames and the line counted here.
 """
 import pathlib
 
@@ -27,6 +27,11 @@ def fields(words):
     return dict(word.split("=", 1) for word in words)
 
 
+def line_of(text, number, place):
+    """Numbers 3, 4 and 5 have a line."""
+    return text.count(b"\n", 0, place) + 1 if number in (3, 4, 5) else 0
+
+
 def case(line):
     words = line.split()
     if "=" in words:
@@ -34,7 +39,8 @@ def case(line):
         return Case(name, operation, fields(lent), fields(words[words.index("=") + 1:]))
     if len(words) == 9:
         lent, answered = ("text", "work", "frames", "diags", "full"), ("number", "place", "frames", "diags")
-        return Case(words[0], "write", dict(zip(lent, [*words[1:5], "1"])), dict(zip(answered, words[5:])))
+        line = line_of(from_hex(words[1]), int(words[5]), int(words[6]))
+        return Case(words[0], "write", dict(zip(lent, [*words[1:5], "1"])), dict(zip(answered, words[5:]), line=str(line)))
     if len(words) == 5:
         return Case(words[0], "lookup", dict(zip(("frames", "label"), words[1:3])), dict(zip(("number", "place"), words[3:])))
     raise NotUnderstood(f"not a case: {line[:60]}")

@@ -6,7 +6,9 @@ import types
 
 MODEL = pathlib.Path(__file__).resolve().parent / "model"
 # the landed requests that change what a text is answered
-LANDED = ["a2_comments", "a8_short_frames"]
+LANDED = ["a2_comments", "a6_lines", "a8_short_frames"]
+# `check` answers number, place and streams; the line of a number and place is asked of `line_of`
+LEFT_OUT = [("a6_lines", "check")]
 
 
 def load():
@@ -18,7 +20,7 @@ def load():
     for request in map(importlib.import_module, LANDED):
         taken = [name for name, thing in vars(request).items() if base.get(name) is thing]
         vars(request).update({name: names[name] for name in taken}, model=types.SimpleNamespace(**names))
-        names.update(vars(request))
+        names.update((name, thing) for name, thing in vars(request).items() if (request.__name__, name) not in LEFT_OUT)
     return types.SimpleNamespace(**names)
 
 

@@ -7,7 +7,7 @@ use crate::lend::{Answer, Refusal, Streams};
 use crate::out::{complain, Out};
 use crate::plain;
 use crate::report::{self, Level};
-use crate::say::{self, Speaker};
+use crate::say::{self, Said, Speaker};
 use crate::source::Source;
 use crate::status::{Failure, Status};
 use crate::words::Options;
@@ -86,9 +86,18 @@ fn left_out(out: &mut Out, source: &Source, count: usize, options: &Options) -> 
     out.line(&format!("{name}: {} not shown; --max 0 shows all", many(left, "more error")))
 }
 
+/// A refusal in words. Where the core answers a line, it is the line that is shown.
+fn in_words(source: &Source, refusal: Refusal) -> Result<Said, Failure> {
+    let said = say::refusal(source.text, refusal)?;
+    if refusal.line != 0 && source.place(refusal.place).0 != refusal.line {
+        return Err(Failure::fault(format!("the core answered line {} for offset {}", refusal.line, refusal.place)));
+    }
+    Ok(said)
+}
+
 /// The refusal of a text. It is never shown as a text without errors.
 pub fn refused(out: &mut Out, source: &Source, refusal: Refusal, options: &Options) -> io::Result<Status> {
-    let said = match say::refusal(source.text, refusal) {
+    let said = match in_words(source, refusal) {
         Ok(said) => said,
         Err(failure) => return failed(out, source.name, &failure, options),
     };

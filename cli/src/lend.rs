@@ -18,11 +18,12 @@ pub struct Streams {
     pub count: u64,
 }
 
-/// The number and place of a refusal.
+/// The number and place of a refusal, and its line: that of the place with numbers 3, 4 and 5, else 0.
 #[derive(Clone, Copy, Debug, PartialEq, Eq)]
 pub struct Refusal {
     pub number: u32,
     pub place: usize,
+    pub line: usize,
 }
 
 pub enum Answer {
@@ -44,12 +45,16 @@ struct Lengths {
     diags: u64,
 }
 
+fn refusal(answer: &janorembe::Answer) -> Refusal {
+    Refusal { number: answer.number, place: answer.place as usize, line: answer.line as usize }
+}
+
 /// The words of work area that a text needs, at the cost of counting its tokens; or the refusal that comes before.
 fn words_needed(text: &[u8]) -> Result<u64, Refusal> {
     let answer = measure(text, &mut [], false);
     match answer.number {
         2 => Ok(answer.place),
-        number => Err(Refusal { number, place: answer.place as usize }),
+        _ => Err(refusal(&answer)),
     }
 }
 
@@ -111,7 +116,7 @@ pub fn streams(text: &[u8], memory: u64, full: bool) -> Result<Answer, Failure> 
             }
             8 => lengths.frames = answer.place,
             9 => lengths.diags = answer.place,
-            number => return Ok(Answer::Refused(Refusal { number, place: answer.place as usize })),
+            _ => return Ok(Answer::Refused(refusal(&answer))),
         }
     }
     Err(Failure::fault("the lengths that the core asked for were not enough"))

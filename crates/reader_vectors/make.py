@@ -15,6 +15,7 @@ from modelled import load
 
 model = load()
 Refusal, first_bad_byte, read, tokens, visible = model.Refusal, model.first_bad_byte, model.read, model.tokens, model.visible
+line_of = model.line_of
 
 KINDS = [b"$c", b"$v", b"$d", b"$f", b"$e", b"$a", b"$p"]
 MOST = 65536
@@ -43,15 +44,19 @@ def words_of(text, statements):
         maths += len(s.math)
 
 
+def refused(text, number, place):
+    return "%d %d %d" % (number, place, line_of(text, number, place))
+
+
 def answer(text, words):
     needed, bad = need(text), first_bad_byte(text)
     if words < needed:
-        return "2 %d" % needed
+        return refused(text, 2, needed)
     if bad is not None:
-        return "3 %d" % bad
+        return refused(text, 3, bad)
     got = read(tokens(text), len(text))
     if isinstance(got, Refusal):
-        return "%d %d" % got
+        return refused(text, *got)
     got = [s for s in got if s.kind in KINDS]
     left = sorted((c, w) for c, w in words_of(text, got) if w)
     return "read %d %d" % (len(got), sum(len(s.math) for s in got)) + "".join(" %d:%d" % x for x in left)
@@ -66,7 +71,8 @@ for text in (b"", b" ", b" \t\n\f\r ", b"$( a $)", b"$( a", b"$(", b"a $(", b"$(
              b"a $p x $= yy$.", b"a $p x $= y zz$( c $) $.", b"a $p x $= y z $( c", b"a $p x $= y $( c $) z", b"a $p x $= y $( c $) z$. $.", b"a $p x $= y $",
              b"a $p x $= y z $c $.", b"a $p x $= y$z w", b"a $c x $.", b"a# $a x $.", b"a.-_Z9 $a x $.", b"$a", b"$", b"$$", b"$x", b"x$", b"$c a$b $.",
              b"$c $( c $) a $( d $) b $( e $) $.", b"$c a $( $.", b"a $( c $) $a $( d $) x $( e $) $.", b"${ $v x $. ${ $v y $. $} $v z $. $} $v w $.",
-             b"$( $) $c a $. $)", b"$.", b"$=", b"$c\fa\r$.", WHOLE):
+             b"$( $) $c a $. $)", b"$.", b"$=", b"$c\fa\r$.", WHOLE, b"\n\r\n$}", b"a\n\n$(", b"a\n\x80", b"$(\n$) $}", b"$(\n\nx$) $)",
+             b"a $p x $=\ny\n$( \n $)\n z\n$. $}", b"\n${", b"$c\na\n$(\n$)\nb\n$.\na\n$b"):
     add(text)
 for byte in (0, 8, 11, 127, 128, 255):
     add(b"$c a" + bytes([byte]) + b" $.")

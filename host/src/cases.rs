@@ -112,7 +112,7 @@ fn records(stream: &[u8]) -> u64 {
 
 /// The words of an answer that nothing speaks of are 0; so are the lengths of a refusal.
 fn kept_to(a: &Answer) -> bool {
-    let nothing = a.segment | a.line | a.verdicts | a.spare == 0;
+    let nothing = a.segment | a.verdicts | a.spare == 0;
     nothing && (a.number == 0 || a.frames | a.diags | a.count == 0)
 }
 
@@ -148,6 +148,7 @@ impl Case {
         let answered = [
             ("number", a.number.to_string()),
             ("place", a.place.to_string()),
+            ("line", a.line.to_string()),
             ("frames", to_hex(f)),
             ("diags", to_hex(d)),
         ];
@@ -163,6 +164,7 @@ impl Case {
         let answered = [
             ("number", a.number.to_string()),
             ("place", a.place.to_string()),
+            ("line", a.line.to_string()),
             ("frame-bytes", a.frames.to_string()),
             ("diagnostics-bytes", a.diags.to_string()),
             ("frames", a.count.to_string()),

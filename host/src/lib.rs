@@ -5,8 +5,9 @@
 
 pub mod cases;
 
-/// What measure and writer answer: document 01's number and place, the bytes of the streams and the number of frames.
-/// Segment, line and bytes of verdicts are 0 as long as nothing speaks of them, and so is the word that is spare.
+/// What measure and writer answer: document 01's number and place, the line of the place (from 1) with numbers 3, 4 and 5 and else
+/// 0, the bytes of the streams and the number of frames. Segment and bytes of verdicts are 0 as long as nothing speaks of them,
+/// and so is the word that is spare.
 #[derive(Clone, Copy, Debug, PartialEq, Eq)]
 pub struct Answer {
     pub number: u32,

@@ -6,7 +6,7 @@ use Prim.Native.Nat.{ℕ}
 use lib.Dec.{eqb}
 use lib.ListN.{length}
 use Rattle.paper.specs.Base.{choose}
-use Rattle.paper.specs.Answer.{measured-number, measured-place, frames-needed, diags-needed, measured-count, measure, number, place, frames-used, diags-used, count, answer, frames-exit, diags-exit, work-exit}
+use Rattle.paper.specs.Answer.{measured-number, measured-place, measured-line, frames-needed, diags-needed, measured-count, measure, number, place, line, frames-used, diags-used, count, answer, frames-exit, diags-exit, work-exit}
 use Rattle.paper.specs.Lookup.{look-up, found-number, found-place}
 use Rattle.paper.specs.declared.Setting.{Setting}
 use Rattle.paper.specs.declared.Setting.the-variants.{Short, Full}
@@ -14,15 +14,15 @@ use Rattle.paper.specs.declared.Measured.{Measured}
 use Rattle.paper.specs.declared.Answer.{Answer}
 
 -- the words of `answer`: place, segment, line, bytes of frames, of diagnostics and of verdicts, number of frames, and one more.
--- There are no segments, lines and verdicts yet: these and the last are 0
-abbrev pub eight : ℕ → ℕ → ℕ → ℕ → List ℕ
-eight p f d n = p ∷ 0 ∷ 0 ∷ f ∷ d ∷ 0 ∷ n ∷ 0 ∷ []
+-- There are no segments and verdicts yet: these and the last are 0
+abbrev pub eight : ℕ → ℕ → ℕ → ℕ → ℕ → List ℕ
+eight p l f d n = p ∷ 0 ∷ l ∷ f ∷ d ∷ 0 ∷ n ∷ 0 ∷ []
 
 abbrev pub measured-words : Measured → List ℕ
-measured-words m = eight (measured-place m) (frames-needed m) (diags-needed m) (measured-count m)
+measured-words m = eight (measured-place m) (measured-line m) (frames-needed m) (diags-needed m) (measured-count m)
 
 abbrev pub written-words : Answer → List ℕ
-written-words r = eight (place r) (frames-used r) (diags-used r) (count r)
+written-words r = eight (place r) (line r) (frames-used r) (diags-used r) (count r)
 
 -- the setting by its number: 0 for short frames, any other for full ones
 abbrev pub setting-of : ℕ → Setting

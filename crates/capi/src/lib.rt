@@ -10,7 +10,7 @@ ghost use Rattle.capi.specs.Promise.{Gauged, Written, Looked};
 pub mod numbers;
 pub mod view;
 
-/// The number of `catalogue::measure`; place, lengths and number of frames go into `answer`.
+/// The number of `catalogue::measure`; place, line, lengths and number of frames go into `answer`.
 #[no_mangle]
 pub extern "C" fn janorembe_measure(
     text: &[u8],
@@ -25,7 +25,7 @@ pub extern "C" fn janorembe_measure(
     tell_measured(measured, answer)
 }
 
-/// The number of `catalogue::write`; place, used lengths and number of frames go into `answer`.
+/// The number of `catalogue::write`; place, line, used lengths and number of frames go into `answer`.
 #[no_mangle]
 pub extern "C" fn janorembe_write(
     text: &[u8],

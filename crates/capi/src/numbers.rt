@@ -54,11 +54,11 @@ fn refusal_place(refusal: Refusal) -> u64
     }
 }
 
-/// What comes of a refusal: its number; its place is the first word, and the others are 0.
-fn tell_refusal(refusal: Refusal, answer: &mut [u64; 8]) -> u32
-    ensures { λ r. ⌜ (r ≡ refusal-number refusal) × (now (answer .exit) ≡ eight (refusal-place refusal) 0 0 0) ⌝ }
+/// What comes of a refusal: its number; its place is the first word, its line the third, and the others are 0.
+fn tell_refusal(refusal: Refusal, line: u64, answer: &mut [u64; 8]) -> u32
+    ensures { λ r. ⌜ (r ≡ refusal-number refusal) × (now (answer .exit) ≡ eight (refusal-place refusal) line 0 0 0) ⌝ }
 {
-    *answer = [refusal_place(refusal), 0, 0, 0, 0, 0, 0, 0];
+    *answer = [refusal_place(refusal), 0, line, 0, 0, 0, 0, 0];
     refusal_number(refusal)
 }
 
@@ -71,7 +71,7 @@ pub fn tell_measured(measured: Measured, answer: &mut [u64; 8]) -> u32
             *answer = [0, 0, 0, frames, diags, 0, count, 0];
             0
         }
-        Measured::Refused(refusal) => tell_refusal(refusal, answer),
+        Measured::Refused(refusal, line) => tell_refusal(refusal, line, answer),
     }
 }
 
@@ -84,7 +84,7 @@ pub fn tell_written(written: Answer, answer: &mut [u64; 8]) -> u32
             *answer = [0, 0, 0, frames_used, diags_used, 0, count, 0];
             0
         }
-        Answer::Refused(refusal) => tell_refusal(refusal, answer),
+        Answer::Refused(refusal, line) => tell_refusal(refusal, line, answer),
     }
 }
 

@@ -17,6 +17,7 @@ use Rattle.paper.proofs.Slips as slips
 use Rattle.paper.proofs.Readings as readings
 use Rattle.paper.proofs.Measures as measures
 use Rattle.paper.proofs.Shorts as shorts
+use Rattle.theorems.specs.Groups.{blanked}
 use Rattle.theorems.specs.Unique.{Allowed}
 use Rattle.theorems.proofs.Unique.{unique-measure, unique}
 use Rattle.theorems.proofs.Measured.{measured-fits}
@@ -99,10 +100,10 @@ group-taken-out c t w f d w₁ f₁ d₁ w₂ f₂ d₂ r s p q a b n g h =
     let x = demand3 c t w f d p q (ap number (sym (a .answer)) ∙ n) g h in
     record {
       streams = x .streams;
-      was = a .answer ∙ ap answer-of (x .were);
+      was = a .answer ∙ ap (answer-of t) (x .were);
       frames-were = a .frames ∙ ap (λ o. frames-of o f) (x .were);
       diags-were = a .diags ∙ ap (λ o. diags-of o d) (x .were);
-      is = b .answer ∙ ap answer-of (x .are);
+      is = b .answer ∙ ap (answer-of (blanked t p q)) (x .are);
       frames-are = b .frames ∙ x .frames-held;
       diags-are = b .diags ∙ x .diags-held;
     }

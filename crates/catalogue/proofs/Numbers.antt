@@ -53,38 +53,38 @@ by-sizes : {e : Setting} {g : List Given} {p q c : ℕ} → Sized e g (folded.St
 by-sizes (sized e x y n) = record { few = e; frames = x; diags = y; count = n }
 
 -- ---- the measure: numbers 7 and 0
-needs-many : {c : Setting} (g : List Given) {s : StatementOffset} → Sized c g (folded.TooMany s) → lengths.Refused (ManyVariables (s .0)) ≡ needs-of (measured c g)
+needs-many : {c : Setting} (t : List ℕ) (g : List Given) {s : StatementOffset} → Sized c g (folded.TooMany s) → lengths.Refused (ManyVariables (s .0)) 0 ≡ needs-of t (measured c g)
 unfolding measured
-needs-many g (crowd x e) = rw e
+needs-many t g (crowd x e) = rw e
 
-needs-done : {e : Setting} (g : List Given) {p q c : ℕ} → Lengths e g p q c → lengths.Needs p q c ≡ needs-of (measured e g)
+needs-done : {e : Setting} (t : List ℕ) (g : List Given) {p q c : ℕ} → Lengths e g p q c → lengths.Needs p q c ≡ needs-of t (measured e g)
 unfolding measured
-needs-done g s = rw (s .few, s .frames, s .diags, s .count)
+needs-done t g s = rw (s .few, s .frames, s .diags, s .count)
 
 -- ---- the writer: number 7
-gives-many : {c : Setting} (g : List Given) {f d : List ℕ} {s : StatementOffset} → Sized c g (folded.TooMany s) → Gives c g f f d d (Refused (ManyVariables (s .0)))
+gives-many : {c : Setting} {t : List ℕ} (g : List Given) {f d : List ℕ} {s : StatementOffset} → Sized c g (folded.TooMany s) → Gives c t g f f d d (Refused (ManyVariables (s .0)) 0)
 unfolding written
 gives-many g (crowd x e) = record { answer = rw e; frames = rw e; diags = rw e }
 
 -- ---- numbers 8 and 9
-gives-short-frames : {e : Setting} (g : List Given) {f d : List ℕ} {p q c : ℕ} → Lengths e g p q c → length f < p → Gives e g f f d d (Refused (ShortFrames p))
+gives-short-frames : {e : Setting} {t : List ℕ} (g : List Given) {f d : List ℕ} {p q c : ℕ} → Lengths e g p q c → length f < p → Gives e t g f f d d (Refused (ShortFrames p) 0)
 unfolding written
-gives-short-frames {e} g {f} {d} s h =
+gives-short-frames {e} {t} g {f} {d} s h =
     let a = lt-ltb (length f) (length (frame-stream e g)) (omega (arith, s .frames)) in
     rw (s .frames) (record { answer = rw (s .few, a); frames = rw (s .few, a); diags = rw (s .few, a) })
 
-gives-short-diags : {e : Setting} (g : List Given) {f d : List ℕ} {p q c : ℕ} → Lengths e g p q c → p ≤ length f → length d < q → Gives e g f f d d (Refused (ShortDiags q))
+gives-short-diags : {e : Setting} {t : List ℕ} (g : List Given) {f d : List ℕ} {p q c : ℕ} → Lengths e g p q c → p ≤ length f → length d < q → Gives e t g f f d d (Refused (ShortDiags q) 0)
 unfolding written
-gives-short-diags {e} g {f} {d} s h k =
+gives-short-diags {e} {t} g {f} {d} s h k =
     let a = le-ltb (length f) (length (frame-stream e g)) (omega (arith, s .frames)) in
     let b = lt-ltb (length d) (length (diag-stream g)) (omega (arith, s .diags)) in
     rw (s .diags) (record { answer = rw (s .few, a, b); frames = rw (s .few, a, b); diags = rw (s .few, a, b) })
 
 -- ---- number 0
-gives-done : {c : Setting} (g : List Given) {f f′ d d′ : List ℕ} {p q i : ℕ} {r : Folded} → Lengths c g p q i → p ≤ length f → q ≤ length d → Streamed c f f′ d d′ g r
-    → Gives c g f f′ d d′ (Done p q i)
+gives-done : {c : Setting} {t : List ℕ} (g : List Given) {f f′ d d′ : List ℕ} {p q i : ℕ} {r : Folded} → Lengths c g p q i → p ≤ length f → q ≤ length d → Streamed c f f′ d d′ g r
+    → Gives c t g f f′ d d′ (Done p q i)
 gives-done g {f} {d = d} s h k (fold.crowd x e) = let z : none ≡ some x = sym (s .few) ∙ e in let y : _≡_ {A = ℕ} 0 1 = cc in absurd (omega (arith, y))
-gives-done {c} g {f} {d = d} s h k (fold.streams e x y n) =
+gives-done {c} {t} g {f} {d = d} s h k (fold.streams e x y n) =
     let w : written c g (length f) (length d) ≡ given (streams c g) =
     fitting-fits c g (length f) (length d) (record { uncrowded = e; frames-fit = omega (arith, s .frames); diags-fit = omega (arith, s .diags) }) in
     record {
@@ -96,10 +96,10 @@ gives-done {c} g {f} {d = d} s h k (fold.streams e x y n) =
 -- ---- the answers
 module _ {e : Setting} {t w v u : List ℕ} {rows : ℕ} {s : Started} (a : Starts t w v rows s) where
   module _ {o : StatementOffset} (z : Sizes e t v u (s .n) rows (s .names) (folded.TooMany o)) where
-    pub needs-refused : Needed e t w rows (lengths.Refused (ManyVariables (o .0)))
-    needs-refused = record { sim = λ {l} h. needs-many (all-given l) (z .sim (a .sim h) .1) }
+    pub needs-refused : Needed e t w rows (lengths.Refused (ManyVariables (o .0)) 0)
+    needs-refused = record { sim = λ {l} h. needs-many t (all-given l) (z .sim (a .sim h) .1) }
 
-    pub many : {f d : List ℕ} → Answered e t w rows f f d d (Refused (ManyVariables (o .0)))
+    pub many : {f d : List ℕ} → Answered e t w rows f f d d (Refused (ManyVariables (o .0)) 0)
     many = record { sim = λ {l} h. gives-many (all-given l) (z .sim (a .sim h) .1) }
 
   module _ {p q c : ℕ} (z : Sizes e t v u (s .n) rows (s .names) (folded.Streams p q c)) where
@@ -107,12 +107,12 @@ module _ {e : Setting} {t w v u : List ℕ} {rows : ℕ} {s : Started} (a : Star
     lengths-of h = by-sizes (z .sim (a .sim h) .1)
 
     pub needs-given : Needed e t w rows (lengths.Needs p q c)
-    needs-given = record { sim = λ {l} h. needs-done (all-given l) (lengths-of h) }
+    needs-given = record { sim = λ {l} h. needs-done t (all-given l) (lengths-of h) }
 
-    pub short-frames : {f d : List ℕ} → length f < p → Answered e t w rows f f d d (Refused (ShortFrames p))
+    pub short-frames : {f d : List ℕ} → length f < p → Answered e t w rows f f d d (Refused (ShortFrames p) 0)
     short-frames h = record { sim = λ {l} x. gives-short-frames (all-given l) (lengths-of x) h }
 
-    pub short-diags : {f d : List ℕ} → p ≤ length f → length d < q → Answered e t w rows f f d d (Refused (ShortDiags q))
+    pub short-diags : {f d : List ℕ} → p ≤ length f → length d < q → Answered e t w rows f f d d (Refused (ShortDiags q) 0)
     short-diags h k = record { sim = λ {l} x. gives-short-diags (all-given l) (lengths-of x) h k }
 
     pub done : {f f′ d d′ x : List ℕ} {r : Folded} → p ≤ length f → q ≤ length d → FoldsAll e t u x f f′ d d′ (s .n) rows (s .names) r

@@ -46,7 +46,7 @@ OneFound = (f l : List ℕ) (r s : Found) → Looks f l r → Looks f l s → r 
 -- ---- a run of the measure, and a run of the writer on the same text with a work area of the same length
 pub record AsMeasured (f d : List ℕ) (m : Measured) (r : Answer) : Type 0 where
   pub done : {x y n : ℕ} → m ≡ lengths.Needs x y n → x ≤ length f → y ≤ length d → r ≡ Done x y n
-  pub refused : {x : Refusal} → m ≡ lengths.Refused x → r ≡ Refused x
+  pub refused : {x : Refusal} {l : ℕ} → m ≡ lengths.Refused x l → r ≡ Refused x l
 
 abbrev pub WritesAsMeasured : Type 0
 WritesAsMeasured =

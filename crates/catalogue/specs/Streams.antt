@@ -33,13 +33,13 @@ pub record Sizes (c : Setting) (t w v : List ℕ) (n rows names : ℕ) (r : Fold
 
 -- ---- the measure
 pub record Needed (c : Setting) (t w : List ℕ) (rows : ℕ) (r : Measured) : Type 0 where
-  pub sim : {l : List Statement} → Held t w rows l → r ≡ needs-of (measured c (all-given l))
+  pub sim : {l : List Statement} → Held t w rows l → r ≡ needs-of t (measured c (all-given l))
 
 -- ---- the writer
-pub record Gives (c : Setting) (g : List Given) (f f′ d d′ : List ℕ) (r : Answer) : Type 0 where
-  pub answer : r ≡ answer-of (written c g (length f) (length d))
+pub record Gives (c : Setting) (t : List ℕ) (g : List Given) (f f′ d d′ : List ℕ) (r : Answer) : Type 0 where
+  pub answer : r ≡ answer-of t (written c g (length f) (length d))
   pub frames : f′ ≡ frames-of (written c g (length f) (length d)) f
   pub diags : d′ ≡ diags-of (written c g (length f) (length d)) d
 
 pub record Answered (c : Setting) (t w : List ℕ) (rows : ℕ) (f f′ d d′ : List ℕ) (r : Answer) : Type 0 where
-  pub sim : {l : List Statement} → Held t w rows l → Gives c (all-given l) f f′ d d′ r
+  pub sim : {l : List Statement} → Held t w rows l → Gives c t (all-given l) f f′ d d′ r

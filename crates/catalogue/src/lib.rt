@@ -16,7 +16,7 @@ pub fn measure(text: &[u8], work: &mut [u32], setting: Setting) -> Measured
     ensures { λ r. ⌜ Measures setting (now (text .entry)) (now (work .entry)) (now (work .exit)) r ⌝ }
 {
     match reader::read(text, work) {
-        Reading::Unread(refusal) => Measured::Refused(refusal),
+        Reading::Unread(refusal, line) => Measured::Refused(refusal, line),
         Reading::Read(rows, _) => {
             let needs = measure_read(text, work, rows, setting);
             let words = work.len();
@@ -38,7 +38,7 @@ pub fn write(
     ensures { λ r. ⌜ Writes setting (now (text .entry)) (now (work .entry)) (now (work .exit)) (now (frames .entry)) (now (frames .exit)) (now (diags .entry)) (now (diags .exit)) r ⌝ }
 {
     match reader::read(text, work) {
-        Reading::Unread(refusal) => Answer::Refused(refusal),
+        Reading::Unread(refusal, line) => Answer::Refused(refusal, line),
         Reading::Read(rows, _) => {
             let answer = answer_read(text, work, frames, diags, rows, setting);
             area::clear(work);

@@ -35,7 +35,7 @@ pub(crate) fn measure_read(text: &[u8], work: &mut [u32], rows: usize, setting: 
 {
     let at = start(text, work, rows);
     match sizes(text, work, at.n, rows, at.names, setting) {
-        Folded::TooMany(s) => Measured::Refused(Refusal::ManyVariables(s.0 as u64)),
+        Folded::TooMany(s) => Measured::Refused(Refusal::ManyVariables(s.0 as u64), 0),
         Folded::Streams(f, d, count) => Measured::Needs(f as u64, d as u64, count as u64),
     }
 }
@@ -54,13 +54,13 @@ pub(crate) fn answer_read(
 {
     let at = start(text, work, rows);
     match sizes(text, work, at.n, rows, at.names, setting) {
-        Folded::TooMany(s) => Answer::Refused(Refusal::ManyVariables(s.0 as u64)),
+        Folded::TooMany(s) => Answer::Refused(Refusal::ManyVariables(s.0 as u64), 0),
         Folded::Streams(f, d, count) => {
             if frames.len() < f {
-                return Answer::Refused(Refusal::ShortFrames(f as u64));
+                return Answer::Refused(Refusal::ShortFrames(f as u64), 0);
             }
             if diags.len() < d {
-                return Answer::Refused(Refusal::ShortDiags(d as u64));
+                return Answer::Refused(Refusal::ShortDiags(d as u64), 0);
             }
             fold_all(text, work, at.n, frames, diags, rows, at.names, setting);
             Answer::Done(f as u64, d as u64, count as u64)

@@ -51,7 +51,7 @@ unfolding all
 spoilt-none [] e a = refl
 spoilt-none (y ∷ l) e a = absurd (clash (sym (rw e at a)))
 
-pub refused-none : {q : List ℕ} {i : ℕ} {x : Refusal} → Refuses q i x → all clean (visible-from q i) ≡ true → visible-from q i ≡ []
+pub refused-none : {q : List ℕ} {i l : ℕ} {x : Refusal} → Refuses q i x l → all clean (visible-from q i) ≡ true → visible-from q i ≡ []
 unfolding visible-from
 refused-none {q} {i} h a = spoilt-none (visible (tokens-from q i) outside) (h .first) a
 

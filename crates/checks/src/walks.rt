@@ -1,5 +1,5 @@
 // The walks over the math tokens of a statement, one for each kind of check.
-// Each goes over the statement's part of the text by the cursor, and takes the atom of a token from the math column.
+// Each goes over the statement's part of the text by the cursor, from line 1 of the part, and takes the atom of a token from the math column.
 use crate::FloatTokens;
 use crate::tokens::check_dv_token;
 use crate::tokens::check_eap_token;
@@ -38,7 +38,7 @@ pub fn check_eap(
     let classes = table();
     let mut p = at;
     let mut i = 0;
-    let mut c = Cursor { at: 0 };
+    let mut c = Cursor { at: 0, line: 1 };
     loop {
         match next_visible(&classes, part, c) {
             Visible::Token(_, d) => {
@@ -47,7 +47,7 @@ pub fn check_eap(
                 i += 1;
                 c = d;
             }
-            Visible::Refused(_) => return p,
+            Visible::Refused(_, _) => return p,
             Visible::End => return p,
         }
     }
@@ -69,7 +69,7 @@ pub fn walk_dv(
     let classes = table();
     let mut p = at;
     let mut i = 0;
-    let mut c = Cursor { at: 0 };
+    let mut c = Cursor { at: 0, line: 1 };
     loop {
         match next_visible(&classes, part, c) {
             Visible::Token(_, d) => {
@@ -78,7 +78,7 @@ pub fn walk_dv(
                 i += 1;
                 c = d;
             }
-            Visible::Refused(_) => return p,
+            Visible::Refused(_, _) => return p,
             Visible::End => return p,
         }
     }
@@ -112,7 +112,7 @@ pub fn float_tokens(part: &[u8], work: &[u32], n: usize, first: usize) -> FloatT
     let mut typecode: u32 = 0;
     let mut variable: u32 = 0;
     let mut i = 0;
-    let mut c = Cursor { at: 0 };
+    let mut c = Cursor { at: 0, line: 1 };
     loop {
         match next_visible(&classes, part, c) {
             Visible::Token(_, d) => {
@@ -121,7 +121,7 @@ pub fn float_tokens(part: &[u8], work: &[u32], n: usize, first: usize) -> FloatT
                 i += 1;
                 c = d;
             }
-            Visible::Refused(_) => {
+            Visible::Refused(_, _) => {
                 return FloatTokens {
                     typecode: Atom(typecode),
                     variable: Atom(variable),
@@ -154,7 +154,7 @@ pub fn walk_outer(
     let classes = table();
     let mut p = at;
     let mut i = 0;
-    let mut c = Cursor { at: 0 };
+    let mut c = Cursor { at: 0, line: 1 };
     loop {
         match next_visible(&classes, part, c) {
             Visible::Token(x, d) => {
@@ -164,7 +164,7 @@ pub fn walk_outer(
                 i += 1;
                 c = d;
             }
-            Visible::Refused(_) => return p,
+            Visible::Refused(_, _) => return p,
             Visible::End => return p,
         }
     }
@@ -188,7 +188,7 @@ pub fn walk_nested(
     let classes = table();
     let mut p = at;
     let mut i = 0;
-    let mut c = Cursor { at: 0 };
+    let mut c = Cursor { at: 0, line: 1 };
     loop {
         match next_visible(&classes, part, c) {
             Visible::Token(x, d) => {
@@ -199,7 +199,7 @@ pub fn walk_nested(
                 i += 1;
                 c = d;
             }
-            Visible::Refused(_) => return p,
+            Visible::Refused(_, _) => return p,
             Visible::End => return p,
         }
     }

@@ -27,7 +27,7 @@ fn diagnose_read(text: &[u8], work: &mut [u32], diags: &mut [u8], rows: usize) -
 // The diagnostics of any text.
 fn diagnose(text: &[u8], work: &mut [u32], diags: &mut [u8]) -> Diagnosis {
     match reader::read(text, work) {
-        Reading::Unread(_) => Diagnosis::Refused,
+        Reading::Unread(_, _) => Diagnosis::Refused,
         Reading::Read(rows, _) => Diagnosis::Used(diagnose_read(text, work, diags, rows)),
     }
 }

@@ -27,7 +27,7 @@ answered :
     {t v : List ℕ} (w : ℕ) {rows k : ℕ} {r : Reading} (o : Outcome (List Statement)) → reading t w ≡ o → Answers t v w o r
     → r ≡ reading.Read rows k → Read t v rows
 answered w (refused x) e a q =
-    let z : reading.Unread x ≡ reading.Read _ _ = sym (a .0) ∙ q in let y : _≡_ {A = ℕ} 0 1 = cc in absurd (omega (arith, y))
+    let z : reading.Unread x _ ≡ reading.Read _ _ = sym (a .0) ∙ q in let y : _≡_ {A = ℕ} 0 1 = cc in absurd (omega (arith, y))
 answered w {rows} {k} (given l) e a q =
     let z : reading.Read (length l) _ ≡ reading.Read rows k = sym (a .0) ∙ q in
     let c : rows ≡ length l = cc in

@@ -56,7 +56,7 @@ fn write_answer(frames: &[u8], folded: Folded) {
 // The frames of any text.
 fn run_text(text: &[u8], work: &mut [u32], frames: &mut [u8], diags: &mut [u8]) {
     match reader::read(text, work) {
-        Reading::Unread(_) => write_number(4294967295),
+        Reading::Unread(_, _) => write_number(4294967295),
         Reading::Read(rows, _) => {
             let folded = frame_read(text, work, frames, diags, rows);
             write_answer(frames, folded);

@@ -21,7 +21,7 @@ const DIAGS: usize = 36864;
 // Writes both streams of a text into buffers of just their lengths, and then out.
 fn write_both(text: &[u8], work: &mut [u32], frames: &mut [u8], diags: &mut [u8]) {
     match catalogue::write(text, work, frames, diags, Setting::Short) {
-        Answer::Refused(_) => {}
+        Answer::Refused(_, _) => {}
         Answer::Done(_, _, _) => {
             io::write_all(1, frames);
             io::write_all(1, diags);
@@ -32,7 +32,7 @@ fn write_both(text: &[u8], work: &mut [u32], frames: &mut [u8], diags: &mut [u8]
 // Measures a text and lends just as much of the buffers.
 fn run(text: &[u8], work: &mut [u32], frames: &mut [u8], diags: &mut [u8]) {
     match catalogue::measure(text, work, Setting::Short) {
-        Measured::Refused(_) => {}
+        Measured::Refused(_, _) => {}
         Measured::Needs(f, d, _) => {
             let f_needed = f as usize;
             let d_needed = d as usize;

@@ -15,15 +15,15 @@ use Rattle.fold.specs.declared.start.Started.{Started}
 use Rattle.fold.specs.Start.{Starts}
 use Rattle.naming_bench.specs.Names.{Names}
 
-unread : (t v : List ℕ) (m : ℕ) {r : Reading} {x : Refusal} (o : Outcome (List Statement)) → Answers t v m o r → r ≡ reading.Unread x → Names t v m o
+unread : (t v : List ℕ) (m : ℕ) {r : Reading} {x : Refusal} {n : ℕ} (o : Outcome (List Statement)) → Answers t v m o r → r ≡ reading.Unread x n → Names t v m o
 unread t v m (refused y) a q = a .1
-unread t v m {x = x} (given l) a q =
-    let z : reading.Read (length l) _ ≡ reading.Unread x = sym (a .0) ∙ q in let y : _≡_ {A = ℕ} 0 1 = cc in absurd (omega (arith, y))
+unread t v m {x = x} {n} (given l) a q =
+    let z : reading.Read (length l) _ ≡ reading.Unread x n = sym (a .0) ∙ q in let y : _≡_ {A = ℕ} 0 1 = cc in absurd (omega (arith, y))
 
 named : (t v u : List ℕ) (w m : ℕ) {rows k : ℕ} {r : Reading} {s : Started} (o : Outcome (List Statement)) → reading t w ≡ o → Answers t v m o r → r ≡ reading.Read rows k
     → Starts t v u rows s → Names t u m o
 named t v u w m (refused x) e a q s =
-    let z : reading.Unread x ≡ reading.Read _ _ = sym (a .0) ∙ q in let y : _≡_ {A = ℕ} 0 1 = cc in absurd (omega (arith, y))
+    let z : reading.Unread x _ ≡ reading.Read _ _ = sym (a .0) ∙ q in let y : _≡_ {A = ℕ} 0 1 = cc in absurd (omega (arith, y))
 named t v u w m {rows} {k} {s = st} (given l) e a q s =
     let z : reading.Read (length l) _ ≡ reading.Read rows k = sym (a .0) ∙ q in
     let c : rows ≡ length l = cc in
@@ -34,7 +34,7 @@ named t v u w m {rows} {k} {s = st} (given l) e a q s =
     }
 
 module _ (t v w : List ℕ) {r : Reading} (h : Reads t w v r) where
-  pub names-unread : {x : Refusal} → r ≡ reading.Unread x → Names t v (length w) (reading t (length w))
+  pub names-unread : {x : Refusal} {n : ℕ} → r ≡ reading.Unread x n → Names t v (length w) (reading t (length w))
   names-unread q = unread t v (length w) (reading t (length w)) h q
 
   pub names-read : {rows k : ℕ} {u : List ℕ} {s : Started} → r ≡ reading.Read rows k → Starts t v u rows s → Names t u (length w) (reading t (length w))

@@ -10,7 +10,7 @@ pub extern "C" fn naming_bench_name(text: &[u8], work: &mut [u32])
     ensures { λ _. ⌜ Names (now (text .entry)) (now (work .exit)) (length (now (work .entry))) (reading (now (text .entry)) (length (now (work .entry)))) ⌝ }
 {
     match reader::read(text, work) {
-        Reading::Unread(_) => {}
+        Reading::Unread(_, _) => {}
         Reading::Read(rows, _) => {
             fold::start::start(text, work, rows);
         }

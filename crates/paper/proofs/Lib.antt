@@ -13,6 +13,7 @@ pub mod Lookups
 pub mod Readings
 pub mod Measures
 pub mod Marked
+pub mod Lines
 pub mod Shorts
 pub mod Segments
 pub mod Searches

@@ -7,6 +7,7 @@ use Prim.Native.Nat.{ℕ, _+_}
 use lib.Dec.{ltb}
 use lib.ListN.{length, take, drop, replicate}
 use Rattle.paper.specs.Base.{choose, find, gather}
+use Rattle.paper.specs.Lines.{line-at}
 use Rattle.paper.specs.Statements.{Statement}
 use Rattle.paper.specs.Reader.{Outcome, refused, given, reading}
 use Rattle.paper.specs.Frames.{Frame, stub, full}
@@ -20,7 +21,7 @@ use Rattle.paper.specs.declared.Measured.the-variants as lengths
 use Rattle.paper.specs.declared.Answer.{Answer}
 use Rattle.paper.specs.declared.Answer.the-variants.{Done, Refused}
 
--- ---- the number and place of each refusal
+-- ---- the number, place and line of each refusal
 abbrev pub refusal-number : Refusal → ℕ
 refusal-number LongText = 1
 refusal-number (ShortWork p) = 2
@@ -43,47 +44,67 @@ refusal-place (ManyVariables p) = p
 refusal-place (ShortFrames p) = p
 refusal-place (ShortDiags p) = p
 
--- ---- number, place, lengths and number of frames of what the measure answers
+-- Numbers 3, 4 and 5 answer a line beside the place; all other numbers answer line 0.
+abbrev pub refusal-line : List ℕ → Refusal → ℕ
+refusal-line t LongText = 0
+refusal-line t (ShortWork p) = 0
+refusal-line t (BadByte p) = line-at t p
+refusal-line t (OpenComment p) = line-at t p
+refusal-line t (BadToken p) = line-at t p
+refusal-line t (OpenText p) = 0
+refusal-line t (ManyVariables p) = 0
+refusal-line t (ShortFrames p) = 0
+refusal-line t (ShortDiags p) = 0
+
+-- ---- number, place, line, lengths and number of frames of what the measure answers
 abbrev pub measured-number : Measured → ℕ
 measured-number (lengths.Needs f d n) = 0
-measured-number (lengths.Refused r) = refusal-number r
+measured-number (lengths.Refused r l) = refusal-number r
 
 abbrev pub measured-place : Measured → ℕ
 measured-place (lengths.Needs f d n) = 0
-measured-place (lengths.Refused r) = refusal-place r
+measured-place (lengths.Refused r l) = refusal-place r
+
+abbrev pub measured-line : Measured → ℕ
+measured-line (lengths.Needs f d n) = 0
+measured-line (lengths.Refused r l) = l
 
 abbrev pub frames-needed : Measured → ℕ
 frames-needed (lengths.Needs f d n) = f
-frames-needed (lengths.Refused r) = 0
+frames-needed (lengths.Refused r l) = 0
 
 abbrev pub diags-needed : Measured → ℕ
 diags-needed (lengths.Needs f d n) = d
-diags-needed (lengths.Refused r) = 0
+diags-needed (lengths.Refused r l) = 0
 
 abbrev pub measured-count : Measured → ℕ
 measured-count (lengths.Needs f d n) = n
-measured-count (lengths.Refused r) = 0
+measured-count (lengths.Refused r l) = 0
 
--- ---- number, place, used lengths and number of frames of what the writer answers
+-- ---- number, place, line, used lengths and number of frames of what the writer answers
 abbrev pub number : Answer → ℕ
 number (Done f d n) = 0
-number (Refused r) = refusal-number r
+number (Refused r l) = refusal-number r
 
 abbrev pub place : Answer → ℕ
 place (Done f d n) = 0
-place (Refused r) = refusal-place r
+place (Refused r l) = refusal-place r
+
+abbrev pub line : Answer → ℕ
+line (Done f d n) = 0
+line (Refused r l) = l
 
 abbrev pub frames-used : Answer → ℕ
 frames-used (Done f d n) = f
-frames-used (Refused r) = 0
+frames-used (Refused r l) = 0
 
 abbrev pub diags-used : Answer → ℕ
 diags-used (Done f d n) = d
-diags-used (Refused r) = 0
+diags-used (Refused r l) = 0
 
 abbrev pub count : Answer → ℕ
 count (Done f d n) = n
-count (Refused r) = 0
+count (Refused r l) = 0
 
 -- ---- number 7: an assertion's frame has over 4,095 variables
 abbrev pub crowded : Frame → Bool
@@ -124,12 +145,13 @@ measured-of c (given l) = measured c (all-given l)
 unfoldable pub measuring : Setting → List ℕ → ℕ → Outcome Streams
 measuring c t w = measured-of c (reading t w)
 
-abbrev pub needs-of : Outcome Streams → Measured
-needs-of (refused r) = lengths.Refused r
-needs-of (given s) = lengths.Needs (length (s .frames)) (length (s .diags)) (s .count)
+-- of the text t
+abbrev pub needs-of : List ℕ → Outcome Streams → Measured
+needs-of t (refused r) = lengths.Refused r (refusal-line t r)
+needs-of t (given s) = lengths.Needs (length (s .frames)) (length (s .diags)) (s .count)
 
 unfoldable pub measure : Setting → List ℕ → ℕ → Measured
-measure c t w = needs-of (measuring c t w)
+measure c t w = needs-of t (measuring c t w)
 
 -- ---- what the writer answers
 -- numbers 8 and 9, for buffers of f and d bytes
@@ -154,12 +176,13 @@ written-of c (given l) f d = written c (all-given l) f d
 unfoldable pub outcome : Setting → List ℕ → ℕ → ℕ → ℕ → Outcome Streams
 outcome c t w f d = written-of c (reading t w) f d
 
-abbrev pub answer-of : Outcome Streams → Answer
-answer-of (refused r) = Refused r
-answer-of (given s) = Done (length (s .frames)) (length (s .diags)) (s .count)
+-- of the text t
+abbrev pub answer-of : List ℕ → Outcome Streams → Answer
+answer-of t (refused r) = Refused r (refusal-line t r)
+answer-of t (given s) = Done (length (s .frames)) (length (s .diags)) (s .count)
 
 unfoldable pub answer : Setting → List ℕ → ℕ → ℕ → ℕ → Answer
-answer c t w f d = answer-of (outcome c t w f d)
+answer c t w f d = answer-of t (outcome c t w f d)
 
 -- ---- what the lent buffers hold at exit
 -- the bytes b laid over a buffer from a place on; the others keep their contents

@@ -1,6 +1,7 @@
 pub mod Base
 pub mod Bytes
 pub mod Tokens
+pub mod Lines
 pub mod Comments
 pub mod Statements
 pub mod Reader

@@ -35,10 +35,10 @@ pub enum Refusal {
     ShortDiags(u64),
 }
 
-/// What the reader answers: the numbers of statements and of math tokens, or a refusal.
+/// What the reader answers: the numbers of statements and of math tokens, or a refusal and its line.
 pub enum Reading {
     Read(usize, usize),
-    Unread(Refusal),
+    Unread(Refusal, u64),
 }
 
 /// Which frames of assertions are written: with the mandatory variables only, or full.
@@ -47,16 +47,16 @@ pub enum Setting {
     Full,
 }
 
-/// What the measure answers: the bytes of frames and of diagnostics and the number of frames, or a refusal.
+/// What the measure answers: the bytes of frames and of diagnostics and the number of frames, or a refusal and its line.
 pub enum Measured {
     Needs(u64, u64, u64),
-    Refused(Refusal),
+    Refused(Refusal, u64),
 }
 
-/// What the writer answers: the used lengths and the number of frames, or a refusal.
+/// What the writer answers: the used lengths and the number of frames, or a refusal and its line.
 pub enum Answer {
     Done(u64, u64, u64),
-    Refused(Refusal),
+    Refused(Refusal, u64),
 }
 
 /// What look-up answers: the record's offset, the first bad record, or no such label.

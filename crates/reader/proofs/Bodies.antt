@@ -10,18 +10,18 @@ use lib.Dec.{leb, ltb}
 use lib.ListN.{length}
 use borrow.Author.Tests.{lt-ltb, leb-true}
 use Rattle.paper.specs.Base.{choose, and, sameb}
-use Rattle.paper.specs.Tokens.{Token, tokens, key, math-token}
+use Rattle.paper.specs.Tokens.{Token, key, math-token}
 use Rattle.paper.specs.Statements.{Kind, $c, $v, $d, $f, $e, $a, $p, Item}
-use Rattle.paper.specs.Reader.{Mode, start, math, proof, Step, go, stop, room, least, closing, statement, closed, allow, with-items, refused, finish, items}
+use Rattle.paper.specs.Reader.{Mode, start, math, proof, Step, go, stop, room, least, closing, statement, closed, allow, with-items, refused, finish}
 use Rattle.paper.specs.declared.Refusal.{Refusal}
 use Rattle.paper.specs.declared.Refusal.the-variants.{BadToken, OpenText}
 use Rattle.paper.proofs.Tests.{split}
-use Rattle.token.specs.Words.{tokens-from, token-of}
+use Rattle.token.specs.Words.{tokens-from, token-of, Lined}
 use Rattle.token.specs.declared.cursor.Span.{Span}
 use Rattle.token.specs.declared.cursor.Cursor.{Cursor}
 use Rattle.token.proofs.Counts.{few-tokens}
 use Rattle.reader.specs.Rows.{kind-number}
-use Rattle.reader.specs.Passed.{Reached, Shows, Refuses, Seen}
+use Rattle.reader.specs.Passed.{Reached, Shows, RefusedAt, Refuses, Seen}
 use Rattle.reader.specs.Kinds.{least-number, most-number, closing-number}
 use Rattle.reader.specs.Runs.{RunRoom, Running, Ran, Proved, closing-of}
 use Rattle.reader.specs.Kept.{with-row, RowRoom, next-state}
@@ -99,36 +99,40 @@ module _ {t : List ℕ} {e c d : ℕ} {m : Mode} {i : List Item} (r : Reached t 
   before : {x : Span} {b : Cursor} → Shows t e x b → x .start < b .at
   before h = omega (arith, h .whole .some, h .stands)
 
-  pub close-refused : (y : Refusal) → closing′.Refused y ≡ closing-of t v count few k → items (tokens t) (length t) ≡ refused y
-  close-refused y q = by v refl q
+  pub close-refused : (y : Refusal) (l : ℕ) → closing′.Refused y l ≡ closing-of t v count few k → RefusedAt t y l
+  close-refused y l q = by v refl q
     where
-      by : (u : Visible) → v ≡ u → closing′.Refused y ≡ closing-of t u count few k → items (tokens t) (length t) ≡ refused y
+      by : (u : Visible) → v ≡ u → closing′.Refused y l ≡ closing-of t u count few k → RefusedAt t y l
       by vis.End p q =
           let n : y ≡ OpenText (length t) = cc in
-          reach-end r (rw p at s) (length t) ∙ f (length t) ∙ rw n
-      by (vis.Refused o) p q =
+          let z : l ≡ 0 = cc in
+          (reach-end r (rw p at s) (length t) ∙ f (length t) ∙ rw n, rw n z)
+      by (vis.Refused o g) p q =
           let n : y ≡ o = cc in
-          let h : Refuses t e o = rw p at s in
-          h .items-are r ∙ rw n
+          let z : l ≡ g = cc in
+          let h : Refuses t e o g = rw p at s in
+          (h .items-are r ∙ rw n, rw n (z ∙ h .line))
       by (vis.Token x y′) p q =
           split (and (sameb (token-of t x .bytes) k) (leb few count))
           (λ b.
-          let g : closing′.Refused y ≡ closing′.At y′ = q ∙ rw b in
+          let g : closing′.Refused y l ≡ closing′.At y′ = q ∙ rw b in
           let w : _≡_ {A = ℕ} 0 1 = cc in
           absurd (omega arith))
           (λ b.
-          let g : closing′.Refused y ≡ closing′.Refused (BadToken (x .start)) = q ∙ rw b in
+          let g : closing′.Refused y l ≡ closing′.Refused (BadToken (x .start)) (x .line) = q ∙ rw b in
           let n : y ≡ BadToken (x .start) = cc in
-          refuse-token (reached-token {z = stop (x .start)} r (rw p at s) (a x y′ p ∙ rw b)) (before (rw p at s)) (length t) ∙ rw n)
+          let z : l ≡ x .line = cc in
+          let h : Shows t e x y′ = rw p at s in
+          (refuse-token (reached-token {z = stop (x .start)} r h (a x y′ p ∙ rw b)) (before h) (length t) ∙ rw n, rw n (z ∙ h .whole .lined)))
 
   pub close-at : (o : Cursor) → closing′.At o ≡ closing-of t v count few k
-      → (length (tokens-from t (o .at)) < length (tokens-from t e)) × Reached t (o .at) (c + 1) (with-items i z) × (few ≤ count)
+      → (length (tokens-from t (o .at)) < length (tokens-from t e)) × Reached t (o .at) (c + 1) (with-items i z) × (few ≤ count) × Lined t o
   close-at o q = by v refl q
     where
       by : (u : Visible) → v ≡ u → closing′.At o ≡ closing-of t u count few k
-          → (length (tokens-from t (o .at)) < length (tokens-from t e)) × Reached t (o .at) (c + 1) (with-items i z) × (few ≤ count)
+          → (length (tokens-from t (o .at)) < length (tokens-from t e)) × Reached t (o .at) (c + 1) (with-items i z) × (few ≤ count) × Lined t o
       by vis.End p q = let w : _≡_ {A = ℕ} 0 1 = cc in absurd (omega arith)
-      by (vis.Refused f) p q = let w : _≡_ {A = ℕ} 0 1 = cc in absurd (omega arith)
+      by (vis.Refused f g) p q = let w : _≡_ {A = ℕ} 0 1 = cc in absurd (omega arith)
       by (vis.Token y y′) p q =
           split (sameb (token-of t y .bytes) k)
           (λ b₁. split (leb few count)
@@ -136,13 +140,13 @@ module _ {t : List ℕ} {e c d : ℕ} {m : Mode} {i : List Item} (r : Reached t 
           let g : closing′.At o ≡ closing′.At y′ = q ∙ rw (b₁, b₂) in
           let n : o ≡ y′ = cc in
           let h : Shows t e y y′ = rw p at s in
-          rw n (omega (arith, passed-few (h .passed)), reached-token {z = z} r h (a y y′ p ∙ rw (b₁, b₂)), leb-true few count b₂))
+          rw n (omega (arith, passed-few (h .passed)), reached-token {z = z} r h (a y y′ p ∙ rw (b₁, b₂)), leb-true few count b₂, h .lined))
           (λ b₂.
-          let g : closing′.At o ≡ closing′.Refused (BadToken (y .start)) = q ∙ rw (b₁, b₂) in
+          let g : closing′.At o ≡ closing′.Refused (BadToken (y .start)) (y .line) = q ∙ rw (b₁, b₂) in
           let w : _≡_ {A = ℕ} 0 1 = cc in
           absurd (omega arith)))
           (λ b₁.
-          let g : closing′.At o ≡ closing′.Refused (BadToken (y .start)) = q ∙ rw b₁ in
+          let g : closing′.At o ≡ closing′.Refused (BadToken (y .start)) (y .line) = q ∙ rw b₁ in
           let w : _≡_ {A = ℕ} 0 1 = cc in
           absurd (omega arith))
 
@@ -163,8 +167,8 @@ module _ {t w : List ℕ} {n : ℕ} {s : State} {h : Head} (b : Begun t w n s h)
       }
 
   -- a run of one math token or more: its row, and the state after the statement
-  module _ {u : List ℕ} {most to count : ℕ} (r : Running t w u n (h .from .at) most (s .maths) to count) (some : 1 ≤ count) {e : Cursor} {c : ℕ} where
-    pub row-room : {z : Step} → Reached t (e .at) c z → s .rows + s .items + s .maths + 2 + count ≤ c → RowRoom u s h to count
+  module _ {u : List ℕ} {most to count : ℕ} (r : Running t w u n (h .from .at) most (s .maths) to count) (some : 1 ≤ count) {c : ℕ} where
+    pub row-room : {e : ℕ} {z : Step} → Reached t e c z → s .rows + s .items + s .maths + 2 + count ≤ c → RowRoom u s h to count
     row-room q l =
         let f = reached-few q in
         let len = r .only .len in
@@ -179,13 +183,14 @@ module _ {t w : List ℕ} {n : ℕ} {s : State} {h : Head} (b : Begun t w n s h)
           items = omega (arith, small, b .words .size);
         }
 
-    pub kept-held : {v : List ℕ} {st : State} (ps : List Token)
+    pub kept-held : {e : Cursor} {v : List ℕ} {st : State} (ps : List Token)
         → Reached t (e .at) c (go start (s .depth) (b .found ++ statement (b .kind) (h .at) (b .name) (r .ms) ps))
         → s .rows + s .items + s .maths + 2 + count ≤ c
         → v ≡ with-row u (s .rows) h to (s .maths) count → st ≡ next-state s count e
         → length (tokens-from t (e .at)) < length (tokens-from t (s .cursor .at))
+        → Lined t e
         → Held t v n st × (length (tokens-from t (st .cursor .at)) < length (tokens-from t (s .cursor .at)))
-    kept-held {v} {st} ps q l ev es less =
+    kept-held {e} {v} {st} ps q l ev es less line =
         let f = reached-few q in
         rw (ev, es) (
           record {
@@ -193,6 +198,7 @@ module _ {t w : List ℕ} {n : ℕ} {s : State} {h : Head} (b : Begun t w n s h)
             words = words-statement (b .words) h (b .kind) (b .name) ps r some (b .code) (b .label) (b .bears)
                 (omega (arith, b .words .size, b .words .little, b .words .fewer)) (omega (arith, b .words .size)) (omega (arith, b .words .size));
             reached = record { seen = q .seen; passed = q .passed; step = q .step; size = omega (arith, q .size) };
+            lined = line;
             deep = omega (arith, b .deep);
           },
           less,
@@ -227,21 +233,25 @@ module _ {t w : List ℕ} {n : ℕ} {s : State} {h : Head} (b : Begun t w n s h)
         let p₂ : least-number (h .kind) ≡ least (b .kind) = ap least-number (b .code) ∙ least-is (b .kind) in
         rw (e, p₁, p₂, r .run .counted)
 
-    pub body-refused : (y : Refusal) → closing′.Refused y ≡ closing-of t (run .after) (run .count) (least-number (h .kind)) (36 ∷ closing-number (h .kind) ∷ [])
-        → items (tokens t) (length t) ≡ refused y
-    body-refused y q =
-        close-refused ran (run .after) (r .after) _ (run .count) (least-number (h .kind)) (36 ∷ closing-number (h .kind) ∷ []) (λ n. refl) allows y q
+    pub body-refused : (y : Refusal) (l : ℕ) → closing′.Refused y l ≡ closing-of t (run .after) (run .count) (least-number (h .kind)) (36 ∷ closing-number (h .kind) ∷ [])
+        → RefusedAt t y l
+    body-refused y l q =
+        close-refused ran (run .after) (r .after) _ (run .count) (least-number (h .kind)) (36 ∷ closing-number (h .kind) ∷ []) (λ n. refl) allows y l q
 
     closed-at : (o : Cursor) → closing′.At o ≡ closing-of t (run .after) (run .count) (least-number (h .kind)) (36 ∷ closing-number (h .kind) ∷ [])
         → (length (tokens-from t (o .at)) < length (tokens-from t (run .stop .at)))
         × Reached t (o .at) (s .rows + s .items + s .maths + 1 + run .count + 1) (with-items (b .found) (closed (b .kind) (s .depth) (h .at) (b .name) ms))
         × (least-number (h .kind) ≤ run .count)
+        × Lined t o
     closed-at o q =
         close-at ran (run .after) (r .after) (closed (b .kind) (s .depth) (h .at) (b .name) ms) (run .count) (least-number (h .kind)) (36 ∷ closing-number (h .kind) ∷ []) (λ n. refl) allows o q
 
     module _ (o : Cursor) (q : closing′.At o ≡ closing-of t (run .after) (run .count) (least-number (h .kind)) (36 ∷ closing-number (h .kind) ∷ [])) where
       pub body-some : 1 ≤ run .count
       body-some = omega (arith, closed-at o q .2, ap least-number (b .code), least-is (b .kind), least-some (b .kind))
+
+      pub body-lined : Lined t o
+      body-lined = closed-at o q .3
 
       pub body-less : length (tokens-from t (o .at)) < length (tokens-from t (s .cursor .at))
       body-less = omega (arith, b .less, passed-few (r .run .passed), closed-at o q .0)
@@ -291,13 +301,14 @@ module _ {t u : List ℕ} {n : ℕ} {s : State} {h : Head} {to count at : ℕ} (
       let e : math-token (token-of t x) ≡ false = rw p at (r .ends) in
       rw (e, r .run .some)
 
-  pub proof-refused : (y : Refusal) → closing′.Refused y ≡ closing-of t (run .after) (run .count) 1 (36 ∷ 46 ∷ []) → items (tokens t) (length t) ≡ refused y
-  proof-refused y q = close-refused proved (run .after) (r .after) _ (run .count) 1 (36 ∷ 46 ∷ []) (λ n. refl) allows-proof y q
+  pub proof-refused : (y : Refusal) (l : ℕ) → closing′.Refused y l ≡ closing-of t (run .after) (run .count) 1 (36 ∷ 46 ∷ []) → RefusedAt t y l
+  proof-refused y l q = close-refused proved (run .after) (r .after) _ (run .count) 1 (36 ∷ 46 ∷ []) (λ n. refl) allows-proof y l q
 
   module _ (o : Cursor) (q : closing′.At o ≡ closing-of t (run .after) (run .count) 1 (36 ∷ 46 ∷ [])) where
     shown : (length (tokens-from t (o .at)) < length (tokens-from t (run .stop .at)))
         × Reached t (o .at) (s .rows + s .items + s .maths + 2 + count + length (r .run .ps) + 1) (go start (s .depth) (d .begun .found ++ statement $p (h .at) (d .begun .name) (d .run .ms) (r .run .ps)))
         × (1 ≤ run .count)
+        × Lined t o
     shown = close-at proved (run .after) (r .after) (go start (s .depth) (statement $p (h .at) (d .begun .name) (d .run .ms) (r .run .ps))) (run .count) 1 (36 ∷ 46 ∷ []) (λ n. refl) allows-proof o q
 
     pub proof-room : RowRoom u s h to count
@@ -307,4 +318,4 @@ module _ {t u : List ℕ} {n : ℕ} {s : State} {h : Head} {to count at : ℕ} (
         → Held t v n st × (length (tokens-from t (st .cursor .at)) < length (tokens-from t (s .cursor .at)))
     proof-held ev es =
         kept-held (d .begun) (d .run) (d .some) (r .run .ps) (rw (← (d .kind)) at (shown .1)) (omega arith) ev es
-        (omega (arith, d .less, passed-few (r .run .passed), shown .0))
+        (omega (arith, d .less, passed-few (r .run .passed), shown .0)) (shown .3)

@@ -10,10 +10,10 @@ use native.Mathlib.Omega.{arith}
 use lib.ListN.{length, take, drop, set, length-drop}
 use lib.Seq.{length-take-le}
 use borrow.Author.Tests.{le-leb, lt-leb}
-use Rattle.paper.specs.Tokens.{Token, tokens, key, label-token}
+use Rattle.paper.specs.Tokens.{Token, key, label-token}
 use Rattle.paper.specs.Comments.{outside}
 use Rattle.paper.specs.Statements.{Kind, $c, $v, $d, $f, $e, $a, $p, labelled, opens, closes}
-use Rattle.paper.specs.Reader.{start, named, math, Step, go, stop, plain-kind, label-kind, shut, begin, keyword, refused, items}
+use Rattle.paper.specs.Reader.{start, named, math, Step, go, stop, plain-kind, label-kind, shut, begin, keyword}
 use Rattle.paper.specs.declared.Refusal.{Refusal}
 use Rattle.paper.specs.declared.Refusal.the-variants.{BadToken, OpenText}
 use Rattle.paper.proofs.Tests.{split, by-option, clash}
@@ -23,7 +23,7 @@ use Rattle.token.specs.declared.cursor.Span.{Span}
 use Rattle.token.specs.declared.cursor.Cursor.{Cursor}
 use Rattle.token.proofs.Counts.{few-tokens}
 use Rattle.reader.specs.Rows.{kind-number}
-use Rattle.reader.specs.Passed.{Passed, Reached, Shows, Refuses}
+use Rattle.reader.specs.Passed.{Passed, Reached, Shows, RefusedAt, Refuses}
 use Rattle.reader.specs.Kinds.{code}
 use Rattle.reader.specs.Kept.{EventRoom, opened, shut-one}
 use Rattle.reader.specs.Held.{Held, Begun, Turned, Taken}
@@ -91,16 +91,16 @@ module _ {t w : List ℕ} {n : ℕ} {s : State} (h : Held t w n s) where
         }
 
     module _ (f₁ : key 123 (token-of t x) ≡ false) where
-      pub close-none : key 125 (token-of t x) ≡ true → s .depth ≡ 0 → items (tokens t) (length t) ≡ refused (BadToken (x .start))
+      pub close-none : key 125 (token-of t x) ≡ true → s .depth ≡ 0 → RefusedAt t (BadToken (x .start)) (x .line)
       close-none f₂ z =
-          refuse-token (reached-token {z = stop (x .start)} (h .reached) p (allow-close (s .depth) (token-of t x) f₁ f₂ ∙ rw z)) here-before (length t)
+          (refuse-token (reached-token {z = stop (x .start)} (h .reached) p (allow-close (s .depth) (token-of t x) f₁ f₂ ∙ rw z)) here-before (length t), p .whole .lined)
 
       module _ (f₂ : key 125 (token-of t x) ≡ false) {c : ℕ} (q : c ≡ code (plain-kind (token-of t x))) where
-        pub plain-bad : x .least < 4 → c ≡ 0 → items (tokens t) (length t) ≡ refused (BadToken (x .start))
+        pub plain-bad : x .least < 4 → c ≡ 0 → RefusedAt t (BadToken (x .start)) (x .line)
         plain-bad l z =
             let a : label-token (token-of t x) ≡ false = sym (p .whole .label) ∙ lt-leb 4 (x .least) l in
             let b : begin (plain-kind (token-of t x)) (s .depth) (token-of t x) ≡ stop (x .start) = rw (code-none (plain-kind (token-of t x)) (sym q ∙ z), a) in
-            refuse-token (reached-token {z = stop (x .start)} (h .reached) p (allow-begin (s .depth) (token-of t x) f₁ f₂ ∙ b)) here-before (length t)
+            (refuse-token (reached-token {z = stop (x .start)} (h .reached) p (allow-begin (s .depth) (token-of t x) f₁ f₂ ∙ b)) here-before (length t), p .whole .lined)
 
         pub plain-begun : (c ≡ 0 → ⊥) → Begun t w n s (record { kind = c; at = x .start; label = 0; from = a })
         plain-begun nz =
@@ -119,6 +119,7 @@ module _ {t w : List ℕ} {n : ℕ} {s : State} (h : Held t w n s) where
               reached = rw append-nil at (reached-token {z = go (math k (x .start) [] []) (s .depth) []} (h .reached) p (allow-begin (s .depth) (token-of t x) f₁ f₂ ∙ b));
               less = less-one;
               gap = shows-gap p;
+              lined = p .lined;
               within = shows-within p;
               at = omega (arith, p .whole .some, p .whole .within);
               size = omega arith;
@@ -138,6 +139,7 @@ module _ {t w : List ℕ} {n : ℕ} {s : State} (h : Held t w n s) where
               found = h .found ++ (opens (x .start) ∷ []);
               words = words-bracket (h .words) (opens (x .start)) refl (omega (arith, h .words .size, h .words .little, h .words .fewer)) (omega (arith, h .words .size)) (omega (arith, h .words .size)) ev;
               reached = reached-least (omega arith) r;
+              lined = p .lined;
               deep = omega (arith, h .deep);
             },
             less-one,
@@ -154,6 +156,7 @@ module _ {t w : List ℕ} {n : ℕ} {s : State} (h : Held t w n s) where
               found = h .found ++ (closes (x .start) ∷ []);
               words = words-bracket (h .words) (closes (x .start)) refl (omega (arith, h .words .size, h .words .little, h .words .fewer)) (omega (arith, h .words .size)) (omega (arith, h .words .size)) ev;
               reached = reached-least (omega arith) r;
+              lined = p .lined;
               deep = omega (arith, h .deep);
             },
             less-one,
@@ -166,17 +169,17 @@ module _ {t w : List ℕ} {n : ℕ} {s : State} (h : Held t w n s) where
           rw append-nil at (reached-token {z = go (named (token-of t x)) (s .depth) []} (h .reached) p
           (allow-label (s .depth) (token-of t x) (sym (p .whole .label) ∙ le-leb 4 (x .least) l)))
 
-      pub label-end : Passed t (a .at) (length t) outside [] outside → items (tokens t) (length t) ≡ refused (OpenText (length t))
-      label-end q = reach-end labelled-at q (length t)
+      pub label-end : Passed t (a .at) (length t) outside [] outside → RefusedAt t (OpenText (length t)) 0
+      label-end q = (reach-end labelled-at q (length t), refl)
 
-      pub label-refused : {y : Refusal} → Refuses t (a .at) y → items (tokens t) (length t) ≡ refused y
-      label-refused q = q .items-are labelled-at
+      pub label-refused : {y : Refusal} {l : ℕ} → Refuses t (a .at) y l → RefusedAt t y l
+      label-refused q = (q .items-are labelled-at, q .line)
 
       module _ {y : Span} {b : Cursor} (g : Shows t (a .at) y b) {c : ℕ} (q : c ≡ code (label-kind (token-of t y))) where
-        pub label-bad : c ≡ 0 → items (tokens t) (length t) ≡ refused (BadToken (y .start))
+        pub label-bad : c ≡ 0 → RefusedAt t (BadToken (y .start)) (y .line)
         label-bad z =
             let b : keyword (label-kind (token-of t y)) (s .depth) (token-of t x) (token-of t y) ≡ stop (y .start) = rw (code-none (label-kind (token-of t y)) (sym q ∙ z)) in
-            refuse-token (reached-token {z = stop (y .start)} labelled-at g (allow-named (s .depth) (token-of t x) (token-of t y) ∙ b)) (omega (arith, g .whole .some, g .stands)) (length t)
+            (refuse-token (reached-token {z = stop (y .start)} labelled-at g (allow-named (s .depth) (token-of t x) (token-of t y) ∙ b)) (omega (arith, g .whole .some, g .stands)) (length t), g .whole .lined)
 
         pub label-begun : (c ≡ 0 → ⊥) → Begun t w n s (record { kind = c; at = x .start; label = x .stop - x .start; from = b })
         label-begun nz =
@@ -196,6 +199,7 @@ module _ {t w : List ℕ} {n : ℕ} {s : State} (h : Held t w n s) where
               reached = rw append-nil at (reached-least {b = s .rows + s .items + s .maths + 1} (omega arith) (reached-token {z = z} labelled-at g (allow-named (s .depth) (token-of t x) (token-of t y) ∙ b)));
               less = omega (arith, less-one, passed-few (g .passed));
               gap = shows-gap g;
+              lined = g .lined;
               within = shows-within g;
               at = omega (arith, p .whole .some, p .whole .within);
               size = omega (arith, p .whole .within);
@@ -205,5 +209,5 @@ module _ {t w : List ℕ} {n : ℕ} {s : State} (h : Held t w n s) where
 -- reading an item is taking it
 pub taken : (t w v : List ℕ) (n at : ℕ) (r : Turn) → Turned t v n at r → Taken t w v n at r
 taken t w v n at (turn.Next s) h = h
-taken t w v n at (turn.Refused x) h = h
+taken t w v n at (turn.Refused x l) h = h
 taken t w v n at turn.End h = absurd h

@@ -12,3 +12,4 @@ pub mod Bodies
 pub mod Items
 pub mod Backs
 pub mod Wholes
+pub mod Unread

@@ -64,7 +64,7 @@ visible-on {t} {i} {e} x =
 -- ---- the first token from i on, by whether it begins a comment
 module _ {t : List ℕ} {i : ℕ} {x : Span} {c : Cursor} (r : Read t i x c) where
   pub look-plain : key 40 (token-of t x) ≡ false → Shows t i x c
-  look-plain e = record { passed = rw (r .stands) (pass-shown i (r .skip) (r .whole) e); onward = r .from; whole = r .whole; stands = r .stands }
+  look-plain e = record { passed = rw (r .stands) (pass-shown i (r .skip) (r .whole) e); onward = r .from; whole = r .whole; stands = r .stands; lined = r .lined }
 
   pub look-math : 3 ≤ x .least → Shows t i x c
   look-math h = look-plain (math-no-key 40 (token-of t x) (sym (r .whole .math) ∙ le-leb 3 (x .least) h))
@@ -80,10 +80,11 @@ module _ {t : List ℕ} {i : ℕ} {x : Span} {c : Cursor} (r : Read t i x c) whe
     passed-then (opened e) (h .0 (x .start)),
     omega (arith, passed-few (h .0 (x .start)), less),
     omega (arith, h .1, r .from, r .whole .some, r .stands),
+    h .2,
   )
 
   -- never closed
-  pub look-open : key 40 (token-of t x) ≡ true → Commented t (c .at) comment.Never → Looked t i (look.Refused (OpenComment (x .start)))
+  pub look-open : key 40 (token-of t x) ≡ true → Commented t (c .at) comment.Never → Looked t i (look.Refused (OpenComment (x .start)) (x .line))
   unfolding visible
   look-open e h =
       let u = h (x .start) in
@@ -93,29 +94,32 @@ module _ {t : List ℕ} {i : ℕ} {x : Span} {c : Cursor} (r : Read t i x c) whe
             to-end g p (length t)
             ∙ open-first (u .ms) (c .at) (x .start) m d j (length t) (omega (arith, r .whole .some, r .stands)) (u .bad) (u .later);
         first = rw (visible-on p, tokens-end t, append-nil (u .ms)) (spoilt-all (u .ms) (u .bad));
+        line = r .whole .lined;
       }
 
   -- closed, with a token that may not stand in it
-  pub look-bad : key 40 (token-of t x) ≡ true → (s : ℕ) → Commented t (c .at) (comment.Bad s) → Looked t i (look.Refused (BadToken s))
-  look-bad e s h =
-      let u = h (x .start) in
+  pub look-bad : key 40 (token-of t x) ≡ true → (b : Cursor) → Commented t (c .at) (comment.Bad b) → Looked t i (look.Refused (BadToken (b .at)) (b .line))
+  look-bad e b h =
+      let u = h .0 (x .start) in
       let p = passed-then (opened e) (u .passed) in
       record {
         items-are = λ {c = k} {d} {m} {j} g.
             whole-on g p (length t)
             ∙ rw (many-bad (u .token) [] m d j (u .bad), many-stop (visible (tokens-from t (u .stop)) (inside (x .start))) (u .token .at), u .closes, u .at)
-            (ap refused (earlier-token t s (u .shut) (u .before)));
+            (ap refused (earlier-token t (b .at) (u .shut) (u .before)));
         first = rw (visible-on p) (u .bad);
+        line = h .1;
       }
 
 pub look-done : {t : List ℕ} {i : ℕ} → tokens-from t i ≡ [] → Looked t i look.End
 look-done {t} {i} z = passed-end (passed-none t i outside) z
 
 -- one comment after another before it
-pub refuses-after : {t : List ℕ} {i e : ℕ} {x : Refusal} → Passed t i e outside [] outside → Refuses t e x → Refuses t i x
+pub refuses-after : {t : List ℕ} {i e : ℕ} {x : Refusal} {l : ℕ} → Passed t i e outside [] outside → Refuses t e x l → Refuses t i x l
 unfolding many
 refuses-after p h =
     record {
       items-are = λ g. h .items-are (reached-run g p refl);
       first = rw (visible-on p) (h .first);
+      line = h .line;
     }

@@ -8,7 +8,7 @@ use Prim.Native.Nat.{ℕ, zero, suc, _+_, _-_, _<_, _≤_, suc-le-suc}
 use native.Mathlib.Nat.{not-suc-le-zero, le-of-suc-le-suc}
 use native.Mathlib.Omega.{arith}
 use lib.Dec.{eqb, ltb}
-use lib.ListN.{length, getD, take, drop, drop-of-length-le}
+use lib.ListN.{length, getD, take, drop, length-drop, drop-of-length-le}
 use lib.Seq.{drop-cons, drop-drop, getD-drop}
 use borrow.Author.Tests.{ne-eqb, eqb-true, ltb-true, ltb-false}
 use Rattle.paper.specs.Base.{or, and, not, sameb, all}
@@ -17,12 +17,13 @@ use Rattle.paper.specs.Tokens.{Token, put, run, toks, key}
 use Rattle.paper.specs.Comments.{outside, inside, after, bracket-first, bracketed, visible}
 use Rattle.paper.proofs.Tests.{split, by-option, clash, eqb-ne, same-eq}
 use Rattle.paper.proofs.Comments.{after-append}
-use Rattle.token.specs.Words.{word, tokens-from}
+use Rattle.token.specs.Words.{word, tokens-from, Lined}
+use Rattle.token.specs.declared.cursor.Cursor.{Cursor}
 use Rattle.token.proofs.Classes.{white-low}
 use Rattle.token.proofs.Words.{stop-of, token-first}
 use Rattle.token.proofs.Parts.{part-tokens}
 use Rattle.reader.specs.Dollar.{gap-first, shuts, closes-first, mark-first, close-from, opens-at, seek, found, Dollar, Mark, Begins}
-use Rattle.reader.specs.Passed.{Passed, Commented}
+use Rattle.reader.specs.Passed.{Passed, Spoilt, Commented}
 use Rattle.reader.specs.declared.comment.Comment.the-variants as comment
 use Rattle.reader.proofs.Passes.{tokens-white, passed-none, passed-then}
 use Rattle.reader.proofs.Dollars.{and-both, and-none, white-plain, opens-same, opens-other, seek-end, seek-step, seek-over, comment-none, closes-last}
@@ -253,6 +254,16 @@ seek-later : (t : List ℕ) (at i e : ℕ) → seek t at i ≡ some e → i < e
 unfolding seek
 seek-later t at i e h = close-later (drop i t) i (opens-at t at i) e h
 
+-- the two bytes of `$)` lie in the text
+closes-long : (l : List ℕ) → closes-first l ≡ true → 2 ≤ length l
+closes-long [] e = absurd (clash (sym e))
+closes-long (b ∷ []) e = absurd (clash (sym (and-both (eqb b 36) false e .1)))
+closes-long (b ∷ c ∷ l) e = omega arith
+
+pub closes-within : (t : List ℕ) (at k : ℕ) → and (opens-at t at k) (closes-first (drop k t)) ≡ true → k + 2 ≤ length t
+closes-within t at k e =
+    omega (arith, closes-long (drop k t) (and-both (opens-at t at k) (closes-first (drop k t)) e .1), length-drop k t)
+
 module _ {t : List ℕ} {at k : ℕ} (m : Mark t at k) where
   mark-seek : seek t at k ≡ seek t at at
   mark-seek =
@@ -264,9 +275,9 @@ module _ {t : List ℕ} {at k : ℕ} (m : Mark t at k) where
   comment-unmarked h = comment-none t at (sym mark-seek ∙ seek-end t at k h)
 
   module _ (l : k < length t) where
-    pub comment-closed : and (opens-at t at k) (closes-first (drop k t)) ≡ true → Commented t at (comment.Closed (record { at = k + 2 }))
+    pub comment-closed : {c : Cursor} → and (opens-at t at k) (closes-first (drop k t)) ≡ true → c .at ≡ k + 2 → Lined t c → Commented t at (comment.Closed c)
     unfolding key
-    comment-closed e =
+    comment-closed e q z =
         let o = and-both (opens-at t at k) (closes-first (drop k t)) e .0 in
         let b : Begins t at k k = record {
           from = m .from;
@@ -276,7 +287,7 @@ module _ {t : List ℕ} {at k : ℕ} (m : Mark t at k) where
         } in
         let w : word (drop k t) ≡ 36 ∷ 41 ∷ [] = same-eq (word (drop k t)) (36 ∷ 41 ∷ []) (the-key m b l ∙ e) in
         let n : stop-of t k ≡ k + 2 = ap (λ (x : List ℕ). k + length x) w in
-        (λ p. rw n at (passed-shut m b l e p), omega (arith, m .from))
+        (λ p. rw (q, ← n) (passed-shut m b l e p), omega (arith, q, m .from), z)
 
     module _ (e : and (opens-at t at k) (closes-first (drop k t)) ≡ false) where
       seek-on : seek t at at ≡ seek t at (k + 1)
@@ -289,11 +300,11 @@ module _ {t : List ℕ} {at k : ℕ} (m : Mark t at k) where
           none-of none z = refl
           none-of (some x) z = absurd (clash z)
 
-      pub comment-bad : {s : ℕ} → found (seek t at (k + 1)) ≡ true → Begins t at k s → Commented t at (comment.Bad s)
-      comment-bad {s} z b =
-          by-option (seek t at (k + 1)) found-at (λ q. absurd (clash (sym z ∙ ap found q)))
+      pub comment-bad : {s : ℕ} {c : Cursor} → found (seek t at (k + 1)) ≡ true → Begins t at k s → c .at ≡ s → Lined t c → Commented t at (comment.Bad c)
+      comment-bad {s} z b o y =
+          (rw o (by-option (seek t at (k + 1)) found-at (λ q. absurd (clash (sym z ∙ ap found q)))), y)
         where
-          found-at : (x : ℕ) → seek t at (k + 1) ≡ some x → Commented t at (comment.Bad s)
+          found-at : (x : ℕ) → seek t at (k + 1) ≡ some x → (p : ℕ) → Spoilt t at s p
           found-at x q = λ p.
               let r = passed-bad m b l e p in
               record {

@@ -77,4 +77,4 @@ shows-within h = rw (h .stands) (h .whole .within)
 -- one comment after another before it
 pub shows-after : {t : List ℕ} {i e : ℕ} {x : Span} {c : Cursor} → Passed t i e outside [] outside → i ≤ e → Shows t e x c → Shows t i x c
 shows-after p l h =
-    record { passed = passed-then p (h .passed); onward = omega (arith, l, h .onward); whole = h .whole; stands = h .stands }
+    record { passed = passed-then p (h .passed); onward = omega (arith, l, h .onward); whole = h .whole; stands = h .stands; lined = h .lined }

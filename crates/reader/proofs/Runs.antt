@@ -9,7 +9,7 @@ use Prim.Native.Nat.{ℕ, _+_, _-_, _<_, zero-le}
 use native.Mathlib.Nat.{le-refl, not-suc-le-zero}
 use native.Mathlib.Omega.{arith}
 use lib.Dec.{leb, ltb}
-use lib.ListN.{length, getD, take, drop, set, length-append, length-drop, List·getD-append}
+use lib.ListN.{length, getD, take, drop, set, length-append, length-drop, length-set, List·getD-append}
 use lib.Seq.{getD-at, length-take-le}
 use borrow.Author.Tests.{le-leb, lt-leb, leb-true, ltb-true, ltb-false}
 use Rattle.paper.specs.Base.{and, all}
@@ -19,13 +19,13 @@ use Rattle.paper.specs.Checks.{no-token}
 use Rattle.paper.proofs.Tests.{split}
 use Rattle.area.specs.Cells.{math-cell, word}
 use Rattle.area.proofs.Laws.{word-same, word-other, only-none, only-set, only-then, only-wide}
-use Rattle.token.specs.Words.{tokens-from, token-of, Spans}
+use Rattle.token.specs.Words.{tokens-from, token-of, Lined, Spans}
 use Rattle.token.specs.declared.cursor.Span.{Span}
 use Rattle.token.specs.declared.cursor.Cursor.{Cursor}
 use Rattle.reader.specs.Rows.{Stands}
 use Rattle.reader.specs.Passed.{Shows}
 use Rattle.reader.specs.Hops.{Hopped}
-use Rattle.reader.specs.Runs.{RunRoom, Running, Proving, math-next}
+use Rattle.reader.specs.Runs.{RunRoom, Running, Stretched, Proving, math-next}
 use Rattle.reader.specs.declared.comment.Visible.{Visible}
 use Rattle.reader.specs.declared.comment.Visible.the-variants as vis
 use Rattle.reader.proofs.comment.Visible.{the-type}
@@ -82,18 +82,29 @@ running-start {t} {w} {n} {at} {first} most h =
       gap = h .gap;
     }
 
--- there is room for one more
-pub running-fits : {t w v : List ℕ} {n at most first stop count : ℕ} {x : Span} {c : Cursor} → RunRoom t w n at first → Running t w v n at most first stop count → Shows t stop x c
-    → first + count < n
-running-fits r h s = omega (arith, r .few, h .counted, passed-few (h .passed), passed-few (s .passed))
+-- there is room for what is left
+pub running-room : {t w v : List ℕ} {n at most first stop count : ℕ} → RunRoom t w n at first → Running t w v n at most first stop count → RunRoom t v n stop (first + count)
+running-room r h =
+    record {
+      room = omega (arith, r .room, h .only .len);
+      few = omega (arith, r .few, h .counted, passed-few (h .passed));
+      small = r .small;
+      short = r .short;
+      within = h .within;
+      gap = h .gap;
+    }
 
-module _ {t w v u : List ℕ} {n at most first stop count : ℕ} {x : Span} {c : Cursor} (r : RunRoom t w n at first) (h : Running t w v n at most first stop count) (s : Shows t stop x c) where
+-- and so for one more
+pub room-fits : {t v : List ℕ} {n first stop : ℕ} {x : Span} {c : Cursor} → RunRoom t v n stop first → Shows t stop x c → first < n
+room-fits r s = omega (arith, r .few, passed-few (s .passed))
+
+module _ {t w v u : List ℕ} {n at most first stop count : ℕ} {x : Span} {c : Cursor} (r : RunRoom t v n stop (first + count)) (h : Running t w v n at most first stop count) (s : Shows t stop x c) where
   pub running-more : and (leb 3 (x .least)) (ltb count most) ≡ true → u ≡ set v (math-cell n (first + count)) (x .start)
       → Running t w u n at most first (c .at) (count + 1)
   running-more b q =
       let e : leb 3 (x .least) ≡ true = and-both (leb 3 (x .least)) (ltb count most) b .0 in
       let l : count < most = ltb-true count most (and-both (leb 3 (x .least)) (ltb count most) b .1) in
-      let room : math-cell n (first + count) < length v = omega (arith, running-fits r h s, r .room, h .only .len) in
+      let room : math-cell n (first + count) < length v = omega (arith, room-fits r s, r .room) in
       let len : length (h .ms) ≡ count = h .counted in
       record {
         ms = h .ms ++ (token-of t x ∷ []);
@@ -110,6 +121,29 @@ module _ {t w v u : List ℕ} {n at most first stop count : ℕ} {x : Span} {c :
         within = shows-within s;
         gap = shows-gap s;
       }
+
+-- ---- a stretch without comments
+pub stretch-start : {t w : List ℕ} {n first : ℕ} {c : Cursor} (most count : ℕ) → RunRoom t w n (c .at) (first + count) → Lined t c
+    → Stretched t w w n most first c count (record { count = count; stop = c })
+stretch-start most count r l = record { sim = λ h. h; room = r; lined = l; len = refl; less = omega arith }
+
+pub stretch-more : {t w v u : List ℕ} {n most first k i : ℕ} {c p d : Cursor} {x : Span} → Stretched t w v n most first c k (record { count = i; stop = p }) → Shows t (p .at) x d
+    → and (leb 3 (x .least)) (ltb i most) ≡ true → u ≡ set v (math-cell n (first + i)) (x .start) → Stretched t w u n most first c k (record { count = i + 1; stop = d })
+stretch-more {v = v} {n = n} {first = first} {i = i} {x = x} h s b q =
+    record {
+      sim = λ g. running-more (h .room) (h .sim g) s b q;
+      room = record {
+        room = rw q (omega (arith, h .room .room, length-set v (math-cell n (first + i)) (x .start)));
+        few = omega (arith, h .room .few, passed-few (s .passed));
+        small = h .room .small;
+        short = h .room .short;
+        within = shows-within s;
+        gap = shows-gap s;
+      };
+      lined = s .lined;
+      len = rw q (length-set v (math-cell n (first + i)) (x .start)) ∙ h .len;
+      less = omega (arith, h .less, passed-few (s .passed));
+    }
 
 -- ---- a proof's run
 pub proving-start : (t : List ℕ) (at : ℕ) → Proving t at at 0
@@ -139,7 +173,7 @@ proving-on {t} {at} {stop} {s} h y =
 pub not-token : (t : List ℕ) (v : Visible) → (tagOf the-type v ≡ 1) ⊎ (tagOf the-type v ≡ 2) → math-next t v ≡ false
 not-token t (vis.Token x c) (inl e) = absurd (omega (arith, e))
 not-token t (vis.Token x c) (inr e) = absurd (omega (arith, e))
-not-token t (vis.Refused p) e = refl
+not-token t (vis.Refused p l) e = refl
 not-token t vis.End e = refl
 
 pub not-math : {t : List ℕ} {stop : ℕ} {x : Span} {c : Cursor} → Shows t stop x c → x .least < 3 → math-token (token-of t x) ≡ false

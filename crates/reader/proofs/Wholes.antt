@@ -3,7 +3,6 @@
 use mathlib.Core.Path.{_≡_, refl, sym, ap, _∙_}
 use mathlib.Core.Bool.{false}
 use mathlib.Core.List.{List, [], _∷_}
-use mathlib.Core.Option.{Option, none, some}
 use Prim.Native.Nat.{ℕ, zero, suc, _+_, _*_, _<_, _≤_}
 use native.Mathlib.Nat.{not-suc-le-zero, le-of-suc-le-suc}
 use native.Mathlib.Omega.{arith}
@@ -11,37 +10,36 @@ use lib.Dec.{ltb}
 use lib.ListN.{length, take, replicate, length-append, length-replicate}
 use borrow.Author.Tests.{ltb-true, ltb-false, lt-ltb, le-ltb}
 use Rattle.paper.specs.Base.{gather}
-use Rattle.paper.specs.Tokens.{Token, tokens, bad-from}
+use Rattle.paper.specs.Tokens.{Token, tokens}
 use Rattle.paper.specs.Comments.{outside}
 use Rattle.paper.specs.Statements.{Statement, Item, opens, closes, states, ended, ends}
-use Rattle.paper.specs.Reader.{start, refused, finish, with-ends, items, words, reading}
-use Rattle.paper.specs.declared.Reading.{Reading}
+use Rattle.paper.specs.Reader.{start, refused, finish, with-ends, items}
 use Rattle.paper.specs.declared.Reading.the-variants.{Read, Unread}
 use Rattle.paper.specs.declared.Refusal.{Refusal}
-use Rattle.paper.specs.declared.Refusal.the-variants.{LongText, ShortWork, BadByte, OpenText}
+use Rattle.paper.specs.declared.Refusal.the-variants.{OpenText}
 use Rattle.paper.proofs.Tests.{split}
 use Rattle.area.specs.Cells.{statement-cell, math-cell, word, Cleared}
 use Rattle.reader.specs.Rows.{stmt, before, Shape, Rows}
-use Rattle.reader.specs.Passed.{Passed}
+use Rattle.reader.specs.Passed.{Passed, RefusedAt}
 use Rattle.reader.specs.Kept.{stated, Row, Words}
 use Rattle.reader.specs.Held.{Held}
 use Rattle.reader.specs.Ends.{EndsRoom, Ended}
-use Rattle.reader.specs.Whole.{Finished, Answers, TextRead, Reads}
-use Rattle.token.specs.Count.{bad-of, count-of}
-use Rattle.token.specs.declared.count.Counted.{Counted}
-use Rattle.token.specs.declared.count.Bad.the-variants.{At, Nowhere}
+use Rattle.reader.specs.Whole.{Finished, Answers}
+use Rattle.token.specs.declared.cursor.Cursor.{Cursor}
 use Rattle.reader.specs.declared.state.State.{State}
 use Rattle.token.proofs.Counts.{few-tokens}
+use Rattle.token.proofs.Lines.{line-start}
 use Rattle.reader.proofs.Grammar.{reached-start, reached-few, reach-end}
-use Rattle.reader.proofs.Keeping.{before-within, row-same, words-start}
+use Rattle.reader.proofs.Keeping.{before-within, row-same}
 
 -- ---- all items
-pub held-start : {t w : List ℕ} {n : ℕ} → Words t w n [] 0 0 0 → Held t w n (record { cursor = record { at = 0 }; rows = 0; maths = 0; items = 0; depth = 0 })
-held-start {t} h = record { found = []; words = h; reached = reached-start t; deep = omega arith }
+pub held-start : {t w : List ℕ} {n : ℕ} {c : Cursor} → c ≡ record { at = 0; line = 1 } → Words t w n [] 0 0 0
+    → Held t w n (record { cursor = c; rows = 0; maths = 0; items = 0; depth = 0 })
+held-start {t} e h = rw e (record { found = []; words = h; reached = reached-start t; lined = line-start t; deep = omega arith })
 
 module _ {t w : List ℕ} {n : ℕ} {s : State} (h : Held t w n s) (p : Passed t (s .cursor .at) (length t) outside [] outside) where
-  pub all-open : (s .depth ≡ 0 → ⊥) → items (tokens t) (length t) ≡ refused (OpenText (length t))
-  all-open z = reach-end (h .reached) p (length t) ∙ deeper (s .depth) z
+  pub all-open : (s .depth ≡ 0 → ⊥) → RefusedAt t (OpenText (length t)) 0
+  all-open z = (reach-end (h .reached) p (length t) ∙ deeper (s .depth) z, refl)
     where
       deeper : (d : ℕ) → (d ≡ 0 → ⊥) → finish start d (h .found) (length t) ≡ refused (OpenText (length t))
       deeper zero z = absurd (z refl)
@@ -215,52 +213,6 @@ module _ {t w : List ℕ} {n : ℕ} {s : State} (f : Finished t w n s) where
     pub text-read : (m : ℕ) → length v ≡ m → Answers t v m (with-ends (items (tokens t) (length t))) (Read (s .rows) (s .maths))
     text-read m l = rw (f .outcome) (rw (all-maths, count), rw (← (f .words .size)) rows-read, l)
 
-pub text-refused : (t : List ℕ) {v : List ℕ} (m : ℕ) → v ≡ replicate m 0 → (x : Refusal) → items (tokens t) (length t) ≡ refused x
-    → Answers t v m (with-ends (items (tokens t) (length t))) (Unread x)
-text-refused t {v} m z x e = rw e (refl, z)
-
--- ---- numbers 1, 2 and 3
-bad-some : (o : Option ℕ) (p : ℕ) → bad-of o ≡ At p → o ≡ some p
-bad-some none p e = let z : _≡_ {A = ℕ} 0 1 = cc in absurd (omega arith)
-bad-some (some q) p e = let z : q ≡ p = cc in rw z
-
-bad-none : (o : Option ℕ) → bad-of o ≡ Nowhere → o ≡ none
-bad-none none e = refl
-bad-none (some q) e = let z : _≡_ {A = ℕ} 0 1 = cc in absurd (omega arith)
-
-pub counted-tokens : (t : List ℕ) {x : Counted} → x ≡ count-of t → x .tokens ≡ length (tokens t)
-counted-tokens t e = ap (λ (y : Counted). y .tokens) e
-
-module _ (t w : List ℕ) {v : List ℕ} (z : v ≡ replicate (length w) 0) where
-  pub read-long : 16777216 < length t → Reads t w v (Unread LongText)
-  unfolding reading
-  read-long h = rw (lt-ltb 16777216 (length t) h) (refl, z)
-
-  module _ (h : length t ≤ 16777216) {x : Counted} (e : x ≡ count-of t) where
-    pub read-short : length w < 16 * (x .tokens + 1) → Reads t w v (Unread (ShortWork (16 * (x .tokens + 1))))
-    unfolding reading words
-    read-short l =
-        let q = counted-tokens t e in
-        rw (q, le-ltb 16777216 (length t) h, lt-ltb (length w) (16 * (length (tokens t) + 1)) (omega (arith, l, q))) (refl, z)
-
-    module _ (l : 16 * (x .tokens + 1) ≤ length w) where
-      fits : ltb (length w) (16 * (length (tokens t) + 1)) ≡ false
-      fits = let q = counted-tokens t e in le-ltb (length w) (16 * (length (tokens t) + 1)) (omega (arith, l, q))
-
-      pub read-bad : (p : ℕ) → x .bad ≡ At p → Reads t w v (Unread (BadByte p))
-      unfolding reading words
-      read-bad p q =
-          let b : bad-from t 0 ≡ some p = bad-some (bad-from t 0) p (sym (ap (λ (y : Counted). y .bad) e) ∙ q) in
-          rw (le-ltb 16777216 (length t) h, fits, b) (refl, z)
-
-      pub read-begin : Words t v (x .tokens + 1) [] 0 0 0
-      read-begin =
-          let q = counted-tokens t e in
-          words-start t v (x .tokens + 1) (length w) (rw q refl) (omega (arith, l, ap length z, length-replicate {A = ℕ} (length w) 0)) h z
-
-      pub read-good : (u : List ℕ) (r : Reading) → x .bad ≡ Nowhere → TextRead t v u (x .tokens + 1) r → Reads t w u r
-      unfolding reading words
-      read-good u r q d =
-          let b : bad-from t 0 ≡ none = bad-none (bad-from t 0) (sym (ap (λ (y : Counted). y .bad) e) ∙ q) in
-          let k : length v ≡ length w = ap length z ∙ length-replicate {A = ℕ} (length w) 0 in
-          rw (le-ltb 16777216 (length t) h, fits, b) (rw k at d)
+pub text-refused : (t : List ℕ) {v : List ℕ} (m : ℕ) → v ≡ replicate m 0 → (x : Refusal) (l : ℕ) → RefusedAt t x l
+    → Answers t v m (with-ends (items (tokens t) (length t))) (Unread x l)
+text-refused t {v} m z x l e = rw (e .0, e .1) (refl, z)

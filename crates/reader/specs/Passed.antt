@@ -12,8 +12,9 @@ use Rattle.paper.specs.Tokens.{Token, tokens}
 use Rattle.paper.specs.Comments.{Place, outside, inside, after, bracketed, visible}
 use Rattle.paper.specs.Statements.{Item}
 use Rattle.paper.specs.Reader.{Mode, start, Step, go, many, refused, items}
+use Rattle.paper.specs.Answer.{refusal-line}
 use Rattle.paper.specs.declared.Refusal.{Refusal}
-use Rattle.token.specs.Words.{tokens-from, token-of, Spans}
+use Rattle.token.specs.Words.{tokens-from, token-of, Lined, Spans}
 use Rattle.token.specs.declared.cursor.Span.{Span}
 use Rattle.token.specs.declared.cursor.Cursor.{Cursor}
 use Rattle.reader.specs.declared.comment.Comment.{Comment}
@@ -60,8 +61,8 @@ pub record Spoilt (t : List ℕ) (i s p : ℕ) : Type 0 where
   pub before : s < shut
 
 abbrev pub Commented : List ℕ → ℕ → Comment → Type 0
-Commented t i (comment.Closed c) = ((p : ℕ) → Passed t i (c .at) (inside p) [] outside) × (i ≤ c .at)
-Commented t i (comment.Bad s) = (p : ℕ) → Spoilt t i s p
+Commented t i (comment.Closed c) = ((p : ℕ) → Passed t i (c .at) (inside p) [] outside) × (i ≤ c .at) × Lined t c
+Commented t i (comment.Bad c) = ((p : ℕ) → Spoilt t i (c .at) p) × Lined t c
 Commented t i comment.Never = (p : ℕ) → Unclosed t i p
 
 -- the token x is the first that stands there outside comments, and the cursor c stands after it
@@ -70,24 +71,30 @@ pub record Shows (t : List ℕ) (i : ℕ) (x : Span) (c : Cursor) : Type 0 where
   pub onward : i ≤ x .start
   pub whole : Spans t x
   pub stands : c .at ≡ x .stop
+  pub lined : Lined t c
 
 -- no token, or a first one that may not stand in a comment
 abbrev pub spoilt : List Token → Bool
 spoilt [] = true
 spoilt (y ∷ l) = bracketed (y .bytes)
 
+-- the text is refused with x, at the line l
+abbrev pub RefusedAt : List ℕ → Refusal → ℕ → Type 0
+RefusedAt t x l = (items (tokens t) (length t) ≡ refused x) × (l ≡ refusal-line t x)
+
 -- a comment from i on is refused with x, whatever was read before it; what is visible begins with what may not stand there
-pub record Refuses (t : List ℕ) (i : ℕ) (x : Refusal) : Type 0 where
+pub record Refuses (t : List ℕ) (i : ℕ) (x : Refusal) (l : ℕ) : Type 0 where
   pub items-are : {c d : ℕ} {m : Mode} {j : List Item} → Reached t i c (go m d j) → items (tokens t) (length t) ≡ refused x
   pub first : spoilt (visible (tokens-from t i) outside) ≡ true
+  pub line : l ≡ refusal-line t x
 
 abbrev pub Looked : List ℕ → ℕ → Look → Type 0
 Looked t i (look.Token x c) = Shows t i x c
-Looked t i (look.Past c) = Passed t i (c .at) outside [] outside × (length (tokens-from t (c .at)) < length (tokens-from t i)) × (i ≤ c .at)
-Looked t i (look.Refused x) = Refuses t i x
+Looked t i (look.Past c) = Passed t i (c .at) outside [] outside × (length (tokens-from t (c .at)) < length (tokens-from t i)) × (i ≤ c .at) × Lined t c
+Looked t i (look.Refused x l) = Refuses t i x l
 Looked t i look.End = Passed t i (length t) outside [] outside
 
 abbrev pub Seen : List ℕ → ℕ → Visible → Type 0
 Seen t i (vis.Token x c) = Shows t i x c
-Seen t i (vis.Refused x) = Refuses t i x
+Seen t i (vis.Refused x l) = Refuses t i x l
 Seen t i vis.End = Passed t i (length t) outside [] outside

@@ -12,12 +12,14 @@ use Rattle.paper.specs.Comments.{outside}
 use Rattle.paper.specs.Checks.{no-token}
 use Rattle.paper.specs.declared.Refusal.the-variants.{BadToken, OpenText}
 use Rattle.area.specs.Cells.{math-cell, word, Only}
-use Rattle.token.specs.Words.{tokens-from, token-of}
+use Rattle.token.specs.Words.{tokens-from, token-of, Lined}
+use Rattle.token.specs.declared.cursor.Cursor.{Cursor}
 use Rattle.reader.specs.Rows.{Stands}
 use Rattle.reader.specs.Passed.{Passed, Gap, Seen}
 use Rattle.reader.specs.declared.comment.Visible.{Visible}
 use Rattle.reader.specs.declared.comment.Visible.the-variants as vis
 use Rattle.reader.specs.declared.run.Run.{Run}
+use Rattle.reader.specs.declared.run.Stretch.{Stretch}
 use Rattle.reader.specs.declared.run.Closing.{Closing}
 use Rattle.reader.specs.declared.run.Closing.the-variants as closing
 
@@ -44,10 +46,18 @@ pub record Running (t w v : List ℕ) (n at most first stop count : ℕ) : Type 
   pub within : stop ≤ length t
   pub gap : Gap t stop
 
+-- a run that stopped at c with so many tokens, whichever it is, has gone on to r over math tokens
+pub record Stretched (t w v : List ℕ) (n most first : ℕ) (c : Cursor) (count : ℕ) (r : Stretch) : Type 0 where
+  pub sim : {u : List ℕ} {at : ℕ} → Running t u w n at most first (c .at) count → Running t u v n at most first (r .stop .at) (r .count)
+  pub room : RunRoom t v n (r .stop .at) (first + r .count)
+  pub lined : Lined t (r .stop)
+  pub len : length v ≡ length w
+  pub less : length (tokens-from t (r .stop .at)) ≤ length (tokens-from t (c .at))
+
 -- whether a math token stands next
 abbrev pub math-next : List ℕ → Visible → Bool
 math-next t (vis.Token x c) = math-token (token-of t x)
-math-next t (vis.Refused p) = false
+math-next t (vis.Refused p l) = false
 math-next t vis.End = false
 
 pub record Ran (t w v : List ℕ) (n at most first : ℕ) (r : Run) : Type 0 where
@@ -69,6 +79,6 @@ pub record Proved (t : List ℕ) (at : ℕ) (r : Run) : Type 0 where
 
 abbrev pub closing-of : List ℕ → Visible → ℕ → ℕ → List ℕ → Closing
 closing-of t (vis.Token x c) count least key =
-    choose (and (sameb (token-of t x .bytes) key) (leb least count)) (closing.At c) (closing.Refused (BadToken (x .start)))
-closing-of t (vis.Refused r) count least key = closing.Refused r
-closing-of t vis.End count least key = closing.Refused (OpenText (length t))
+    choose (and (sameb (token-of t x .bytes) key) (leb least count)) (closing.At c) (closing.Refused (BadToken (x .start)) (x .line))
+closing-of t (vis.Refused r l) count least key = closing.Refused r l
+closing-of t vis.End count least key = closing.Refused (OpenText (length t)) 0

@@ -7,9 +7,11 @@ use lib.ListN.{length, replicate}
 use Rattle.paper.specs.Tokens.{tokens}
 use Rattle.paper.specs.Statements.{Statement, Item}
 use Rattle.paper.specs.Reader.{Outcome, refused, given, items, with-ends, reading}
+use Rattle.paper.specs.Answer.{refusal-line}
 use Rattle.paper.specs.declared.Reading.{Reading}
 use Rattle.paper.specs.declared.Reading.the-variants.{Read, Unread}
 use Rattle.reader.specs.Rows.{before, Rows}
+use Rattle.reader.specs.Passed.{RefusedAt}
 use Rattle.reader.specs.Kept.{Words}
 use Rattle.reader.specs.declared.state.State.{State}
 use Rattle.reader.specs.declared.whole.All.{All}
@@ -25,11 +27,11 @@ pub record Finished (t v : List ℕ) (n : ℕ) (s : State) : Type 0 where
 
 abbrev pub AllRead : List ℕ → List ℕ → ℕ → All → Type 0
 AllRead t v n (every.Done s) = Finished t v n s
-AllRead t v n (every.Refused x) = items (tokens t) (length t) ≡ refused x
+AllRead t v n (every.Refused x l) = RefusedAt t x l
 
 -- the answer r and the words v are those of an outcome, in a work area of m words
 abbrev pub Answers : List ℕ → List ℕ → ℕ → Outcome (List Statement) → Reading → Type 0
-Answers t v m (refused x) r = (r ≡ Unread x) × (v ≡ replicate m 0)
+Answers t v m (refused x) r = (r ≡ Unread x (refusal-line t x)) × (v ≡ replicate m 0)
 Answers t v m (given l) r = (r ≡ Read (length l) (before l (length l))) × Rows t v (length (tokens t) + 1) l × (length v ≡ m)
 
 abbrev pub TextRead : List ℕ → List ℕ → List ℕ → ℕ → Reading → Type 0

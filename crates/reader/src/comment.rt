@@ -11,33 +11,34 @@ use token::cursor::Span;
 use token::cursor::is_key;
 ghost use mathlib.Core.Path.{_≡_};
 ghost use Rattle.token.specs.Class.{classes};
+ghost use Rattle.token.specs.Words.{Lined};
 ghost use Prim.Native.Nat.{_<_, _≤_};
 ghost use lib.ListN.{length, drop};
 ghost use Rattle.paper.specs.Base.{and};
 ghost use Rattle.reader.specs.Dollar.{Dollar, Mark, Begins, gap-first, mark-first, closes-first, opens-at, seek, found};
 ghost use Rattle.reader.specs.Passed.{Commented, Looked, Seen};
 
-/// What a comment is: closed, with the cursor after its `$)`; closed, with the place of the first token that may not stand in it;
+/// What a comment is: closed, with the cursor after its `$)`; closed, with the cursor at the first token that may not stand in it;
 /// or never closed.
 pub enum Comment {
     Closed(Cursor),
-    Bad(usize),
+    Bad(Cursor),
     Never,
 }
 
 /// What a token is outside comments: shown, with the cursor after it, or the start of a comment, with the cursor after it or
-/// what it is refused with; or no more.
+/// what it is refused with, and its line; or no more.
 pub enum Look {
     Token(Span, Cursor),
     Past(Cursor),
-    Refused(Refusal),
+    Refused(Refusal, u64),
     End,
 }
 
-/// What stands next outside comments: a token, with the cursor after it, a comment that is refused, or no more.
+/// What stands next outside comments: a token, with the cursor after it, a comment that is refused, with the line, or no more.
 pub enum Visible {
     Token(Span, Cursor),
-    Refused(Refusal),
+    Refused(Refusal, u64),
     End,
 }
 
@@ -164,7 +165,7 @@ pub fn closes_from(table: &[u8; 256], text: &[u8], at: usize, from: usize) -> bo
 
 /// The comment that goes on from `c`, the cursor after its `$(`.
 pub fn comment_end(table: &[u8; 256], text: &[u8], c: Cursor) -> Comment
-    requires { ⌜ (now table ≡ classes) × (c .at ≤ length (now text)) ⌝ }
+    requires { ⌜ (now table ≡ classes) × (c .at ≤ length (now text)) × Lined (now text) c ⌝ }
     ensures { λ r. ⌜ Commented (now (text .entry)) (c .at) r ⌝ }
 {
     let at = c.at;
@@ -173,17 +174,17 @@ pub fn comment_end(table: &[u8; 256], text: &[u8], c: Cursor) -> Comment
         return Comment::Never;
     }
     if closes_at(table, text, at, k) {
-        return Comment::Closed(Cursor { at: k + 2 });
+        return Comment::Closed(c.hop(text, k + 2));
     }
     if !closes_from(table, text, at, k + 1) {
         return Comment::Never;
     }
-    Comment::Bad(start_of(table, text, at, k))
+    Comment::Bad(c.hop(text, start_of(table, text, at, k)))
 }
 
 /// The first token from `c` on, by whether it begins a comment.
 pub fn look_at(table: &[u8; 256], text: &[u8], c: Cursor) -> Look
-    requires { ⌜ now table ≡ classes ⌝ }
+    requires { ⌜ (now table ≡ classes) × Lined (now text) c ⌝ }
     ensures { λ r. ⌜ Looked (now (text .entry)) (c .at) r ⌝ }
 {
     let Next::Token(x, d) = c.next(table, text) else {
@@ -199,14 +200,14 @@ pub fn look_at(table: &[u8; 256], text: &[u8], c: Cursor) -> Look
     }
     match comment_end(table, text, d) {
         Comment::Closed(e) => Look::Past(e),
-        Comment::Bad(p) => Look::Refused(Refusal::BadToken(p as u64)),
-        Comment::Never => Look::Refused(Refusal::OpenComment(start as u64)),
+        Comment::Bad(b) => Look::Refused(Refusal::BadToken(b.at as u64), b.line),
+        Comment::Never => Look::Refused(Refusal::OpenComment(start as u64), x.line),
     }
 }
 
 /// The first token from `c` on that stands outside comments.
 pub fn next_visible(table: &[u8; 256], text: &[u8], c: Cursor) -> Visible
-    requires { ⌜ now table ≡ classes ⌝ }
+    requires { ⌜ (now table ≡ classes) × Lined (now text) c ⌝ }
     ensures { λ r. ⌜ Seen (now (text .entry)) (c .at) r ⌝ }
 {
     let mut i = c;
@@ -214,7 +215,7 @@ pub fn next_visible(table: &[u8; 256], text: &[u8], c: Cursor) -> Visible
         match look_at(table, text, i) {
             Look::Token(x, d) => return Visible::Token(x, d),
             Look::Past(d) => i = d,
-            Look::Refused(x) => return Visible::Refused(x),
+            Look::Refused(x, l) => return Visible::Refused(x, l),
             Look::End => return Visible::End,
         }
     }

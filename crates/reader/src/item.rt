@@ -26,6 +26,7 @@ use token::cursor::is_key;
 ghost use mathlib.Core.Path.{_≡_};
 ghost use Prim.Native.Nat.{_+_, _<_, _≤_};
 ghost use Rattle.token.specs.Class.{classes};
+ghost use Rattle.token.specs.Words.{Lined};
 ghost use Rattle.reader.specs.Passed.{Shows};
 ghost use Rattle.reader.specs.Kept.{EventRoom, opened, shut-one};
 ghost use Rattle.reader.specs.Held.{Held, Begun, Stated, Turned, Taken};
@@ -44,12 +45,12 @@ pub fn read_rest(
     count: usize,
     c: Cursor,
 ) -> Turn
-    requires { ⌜ (now table ≡ classes) × Stated (now text) (now work) n s h to count (c .at) ⌝ }
+    requires { ⌜ (now table ≡ classes) × Stated (now text) (now work) n s h to count (c .at) × Lined (now text) c ⌝ }
     ensures { λ r. ⌜ Turned (now (text .entry)) (now (work .exit)) n (s .cursor .at) r ⌝ }
 {
     let proof = read_proof(table, text, c);
     match close_run(text, proof, 1, KEY_STOP) {
-        Closing::Refused(x) => Turn::Refused(x),
+        Closing::Refused(x, l) => Turn::Refused(x, l),
         Closing::At(d) => Turn::Next(keep(work, s, h, to, count, d)),
     }
 }
@@ -69,7 +70,7 @@ pub fn read_body(
     let kind = h.kind;
     let run = read_run(table, text, work, n, h.from, most_of(kind), s.maths);
     match close_run(text, run, least_of(kind), closing_of(kind)) {
-        Closing::Refused(x) => Turn::Refused(x),
+        Closing::Refused(x, l) => Turn::Refused(x, l),
         Closing::At(d) => {
             let to = run.stop.at;
             if kind == 7 {
@@ -96,12 +97,12 @@ pub fn read_labelled(
     let start = x.start;
     let stop = x.stop;
     match next_visible(table, text, c) {
-        Visible::End => Turn::Refused(Refusal::OpenText(text.len() as u64)),
-        Visible::Refused(x) => Turn::Refused(x),
+        Visible::End => Turn::Refused(Refusal::OpenText(text.len() as u64), 0),
+        Visible::Refused(x, l) => Turn::Refused(x, l),
         Visible::Token(y, d) => {
             let kind = label_code(text, y);
             if kind == 0 {
-                return Turn::Refused(Refusal::BadToken(y.start as u64));
+                return Turn::Refused(Refusal::BadToken(y.start as u64), y.line);
             }
             let h = Head {
                 kind: kind,
@@ -169,13 +170,13 @@ pub fn read_from(
     }
     if is_key(&text[start..stop], KEY_CLOSE) {
         if s.depth == 0 {
-            return Turn::Refused(Refusal::BadToken(start as u64));
+            return Turn::Refused(Refusal::BadToken(start as u64), x.line);
         }
         return Turn::Next(close_group(work, n, s, start, c));
     }
     let kind = plain_code(text, x);
     if kind == 0 {
-        return Turn::Refused(Refusal::BadToken(start as u64));
+        return Turn::Refused(Refusal::BadToken(start as u64), x.line);
     }
     let h = Head {
         kind: kind,
@@ -193,7 +194,7 @@ pub fn read_one(table: &[u8; 256], text: &[u8], work: &mut [u32], n: usize, s: S
 {
     match next_visible(table, text, s.cursor) {
         Visible::End => Turn::End,
-        Visible::Refused(x) => Turn::Refused(x),
+        Visible::Refused(x, l) => Turn::Refused(x, l),
         Visible::Token(x, c) => read_from(table, text, work, n, s, x, c),
     }
 }

@@ -7,6 +7,7 @@ use paper::Refusal;
 use token::class::table;
 use token::count::Bad;
 use token::count::count;
+use token::cursor::text_start;
 ghost use Rattle.reader.specs.Whole.{Reads};
 
 pub mod comment;
@@ -24,16 +25,19 @@ pub fn read(text: &[u8], work: &mut [u32]) -> Reading
 {
     clear(work);
     if 16777216 < text.len() {
-        return Reading::Unread(Refusal::LongText);
+        return Reading::Unread(Refusal::LongText, 0);
     }
     let counted = count(text);
     let n = counted.tokens + 1;
     if work.len() < 16 * n {
-        return Reading::Unread(Refusal::ShortWork((16 * n) as u64));
+        return Reading::Unread(Refusal::ShortWork((16 * n) as u64), 0);
     }
     let bad = counted.bad;
     match bad {
-        Bad::At(p) => Reading::Unread(Refusal::BadByte(p as u64)),
+        Bad::At(p) => {
+            let c = text_start().hop(text, p);
+            Reading::Unread(Refusal::BadByte(p as u64), c.line)
+        }
         Bad::Nowhere => {
             let classes = table();
             read_text(&classes, text, work, n)

@@ -10,6 +10,7 @@ ghost use mathlib.Core.Path.{_≡_};
 ghost use Prim.Native.Nat.{_≤_};
 ghost use lib.ListN.{length};
 ghost use Rattle.token.specs.Class.{classes};
+ghost use Rattle.token.specs.Words.{Lined};
 ghost use Rattle.reader.specs.Hops.{Odd, Hopped};
 ghost use Rattle.reader.specs.Runs.{Proved};
 
@@ -35,17 +36,17 @@ pub fn next_odd(table: &[u8; 256], text: &[u8], at: usize) -> usize
 /// A cursor from `c` on up to which only math tokens stand. A token starts there, or the text ends, and the bytes of that
 /// token alone are read again: after it the proof goes on only where it starts a comment.
 pub fn past_math(table: &[u8; 256], text: &[u8], c: Cursor) -> Cursor
-    requires { ⌜ (now table ≡ classes) × (c .at ≤ length (now text)) ⌝ }
-    ensures { λ r. ⌜ Hopped (now (text .entry)) (c .at) (r .at) ⌝ }
+    requires { ⌜ (now table ≡ classes) × (c .at ≤ length (now text)) × Lined (now text) c ⌝ }
+    ensures { λ r. ⌜ Hopped (now (text .entry)) (c .at) (r .at) × Lined (now (text .entry)) r ⌝ }
 {
     let k = next_odd(table, text, c.at);
     let start = start_of(table, text, c.at, k);
-    Cursor { at: start }
+    c.hop(text, start)
 }
 
 /// The longest run of math tokens from `c` on, counted only as none (0) or some (1).
 pub fn read_proof(table: &[u8; 256], text: &[u8], c: Cursor) -> Run
-    requires { ⌜ now table ≡ classes ⌝ }
+    requires { ⌜ (now table ≡ classes) × Lined (now text) c ⌝ }
     ensures { λ r. ⌜ Proved (now (text .entry)) (c .at) r ⌝ }
 {
     let mut stop = c;

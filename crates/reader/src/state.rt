@@ -13,13 +13,14 @@ use token::cursor::Cursor;
 ghost use mathlib.Core.Path.{_≡_};
 ghost use Rattle.reader.specs.Kept.{RowRoom, with-row, next-state};
 
-/// The cursor, and how many statements, math tokens and items stand before it, and how many groups are open.
+/// How many statements, math tokens and items stand before the cursor, how many groups are open, and the cursor. It stands last, where
+/// it lies under no tag of `Turn` and `All`: the back end then keeps it in registers.
 pub struct State {
-    pub cursor: Cursor,
     pub rows: usize,
     pub maths: usize,
     pub items: usize,
     pub depth: usize,
+    pub cursor: Cursor,
 }
 
 /// The head of a statement: kind, first token, label length (0 for none), and the cursor after the keyword.
@@ -30,10 +31,10 @@ pub struct Head {
     pub from: Cursor,
 }
 
-/// What reading one item gives: the state after it, a refusal, or the end of the text.
+/// What reading one item gives: the state after it, a refusal and its line, or the end of the text.
 pub enum Turn {
     Next(State),
-    Refused(Refusal),
+    Refused(Refusal, u64),
     End,
 }
 

@@ -8,17 +8,17 @@ use area::clear;
 use area::clear_part;
 use paper::Reading;
 use paper::Refusal;
-use token::cursor::Cursor;
+use token::cursor::text_start;
 ghost use mathlib.Core.Path.{_≡_};
 ghost use mathlib.Core.List.{[]};
 ghost use Rattle.token.specs.Class.{classes};
 ghost use Rattle.reader.specs.Kept.{Words};
 ghost use Rattle.reader.specs.Whole.{AllRead, TextRead};
 
-/// What reading all items gives: the state after the last, or a refusal.
+/// What reading all items gives: the state after the last, or a refusal and its line.
 pub enum All {
     Done(State),
-    Refused(Refusal),
+    Refused(Refusal, u64),
 }
 
 /// Reads all items.
@@ -27,7 +27,7 @@ pub fn read_all(table: &[u8; 256], text: &[u8], work: &mut [u32], n: usize) -> A
     ensures { λ r. ⌜ AllRead (now (text .entry)) (now (work .exit)) n r ⌝ }
 {
     let mut s = State {
-        cursor: Cursor { at: 0 },
+        cursor: text_start(),
         rows: 0,
         maths: 0,
         items: 0,
@@ -36,10 +36,10 @@ pub fn read_all(table: &[u8; 256], text: &[u8], work: &mut [u32], n: usize) -> A
     loop {
         match read_one(table, text, work, n, s) {
             Turn::Next(r) => s = r,
-            Turn::Refused(x) => return All::Refused(x),
+            Turn::Refused(x, l) => return All::Refused(x, l),
             Turn::End => {
                 if s.depth != 0 {
-                    return All::Refused(Refusal::OpenText(text.len() as u64));
+                    return All::Refused(Refusal::OpenText(text.len() as u64), 0);
                 }
                 return All::Done(s);
             }
@@ -53,9 +53,9 @@ pub fn read_text(table: &[u8; 256], text: &[u8], work: &mut [u32], n: usize) -> 
     ensures { λ r. ⌜ TextRead (now (text .entry)) (now (work .entry)) (now (work .exit)) n r ⌝ }
 {
     match read_all(table, text, work, n) {
-        All::Refused(x) => {
+        All::Refused(x, l) => {
             clear(work);
-            Reading::Unread(x)
+            Reading::Unread(x, l)
         }
         All::Done(s) => {
             set_ends(work, n, s.rows, s.items);

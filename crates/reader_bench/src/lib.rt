@@ -30,6 +30,6 @@ pub extern "C" fn reader_bench_read(text: &[u8], work: &mut [u32]) -> u32
 {
     match reader::read(text, work) {
         Reading::Read(_, _) => 0,
-        Reading::Unread(x) => number(x),
+        Reading::Unread(x, _) => number(x),
     }
 }

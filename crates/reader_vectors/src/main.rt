@@ -1,4 +1,4 @@
-// Runs the reader over recorded texts and writes what it finds: number and place, or statements and math tokens, then every word
+// Runs the reader over recorded texts and writes what it finds: number, place and line, or statements and math tokens, then every word
 // of the work area that is not 0. The file `cases` of `data/` has them one after the other: u16 length of the text, u16 words of the
 // work area, and the text; what a case leaves in the work area is there when the next begins. `make.py` wrote it, and `stdout`.
 use paper::Reading;
@@ -33,7 +33,11 @@ fn write_answer(r: Reading) {
             io::write_all(1, b"read ");
             write_two(s as u64, m as u64);
         }
-        Reading::Unread(x) => write_refusal(x),
+        Reading::Unread(x, line) => {
+            write_refusal(x);
+            io::write_all(1, b" ");
+            io::print_decimal(1, line);
+        }
     }
 }
 

@@ -8,6 +8,7 @@ use lib.ListN.{getD, length, length-append}
 use Rattle.paper.specs.Base.{sameb, all, any, keep, find, latest, gather, table}
 use Rattle.paper.specs.Bytes.{white, printable, label-byte, math-byte}
 use Rattle.paper.specs.Tokens.{run, toks, tokens, label-token, math-token, key, bad-from}
+use Rattle.paper.specs.Lines.{feeds, line-at}
 use Rattle.paper.specs.Comments.{after, bracketed, visible}
 use Rattle.paper.specs.Statements.{outermost, closers, ends}
 use Rattle.paper.specs.Reader.{allow, many, items, words, reading}
@@ -36,7 +37,7 @@ undisturbed : {c : Setting} {t u : List ℕ} {w f d w′ f′ d′ : ℕ} → Un
 undisturbed x = rw (x .first-are, x .second-are) (x .frames)
 
 pub later-examples : LaterExamples
-unfolding sameb all any keep find latest gather table white printable label-byte math-byte run toks tokens label-token math-token key bad-from after bracketed visible outermost closers ends allow many items words reading labels owner declared global view nested-of float-of sense each check-label check-outer verdict records nested-records nested-diags check-float check-expression first-index check-disjoint formula sights variables-of index raised pool-of fragments rump expression hypotheses in-order pairs-in new-pairs pairs rows mandatory frame-of give-c give-v give-d give-f give-e give-assertion give gives all-given le u16 u32 string framed diag-record fragment-bytes expression-bytes hypothesis-bytes pair-bytes octet row-bytes full-payload frame-record frame-records diag-records frame-stream diag-stream written outcome answer laid u16-at u32-at names-nested
+unfolding sameb all any keep find latest gather table white printable label-byte math-byte run toks tokens label-token math-token key bad-from feeds line-at after bracketed visible outermost closers ends allow many items words reading labels owner declared global view nested-of float-of sense each check-label check-outer verdict records nested-records nested-diags check-float check-expression first-index check-disjoint formula sights variables-of index raised pool-of fragments rump expression hypotheses in-order pairs-in new-pairs pairs rows mandatory frame-of give-c give-v give-d give-f give-e give-assertion give gives all-given le u16 u32 string framed diag-record fragment-bytes expression-bytes hypothesis-bytes pair-bytes octet row-bytes full-payload frame-record frame-records diag-records frame-stream diag-stream written outcome answer laid u16-at u32-at names-nested
 later-examples =
     record {
       constant-needed =

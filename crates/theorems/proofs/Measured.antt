@@ -22,21 +22,21 @@ use Rattle.theorems.specs.Measured.{written-as, AsMeasured, MeasuredFits
 use Rattle.theorems.proofs.Refusals.{by-outcome}
 
 -- ---- the writer's answer by the measure's
-by-buffers : (s : Streams) (f d : ℕ) → answer-of (fitting s f d) ≡ written-as (needs-of (given s)) f d
-by-buffers s f d =
+by-buffers : (t : List ℕ) (s : Streams) (f d : ℕ) → answer-of t (fitting s f d) ≡ written-as (needs-of t (given s)) f d
+by-buffers t s f d =
     split (ltb f (length (s .frames)))
     (λ a. rw a)
     (λ a. split (ltb d (length (s .diags))) (λ b. rw (a, b)) (λ b. rw (a, b)))
 
-by-given : (c : Setting) (l : List Given) (f d : ℕ) → answer-of (written c l f d) ≡ written-as (needs-of (measured c l)) f d
+by-given : (c : Setting) (t : List ℕ) (l : List Given) (f d : ℕ) → answer-of t (written c l f d) ≡ written-as (needs-of t (measured c l)) f d
 unfolding written measured
-by-given c l f d =
-    by-option (find crowded (frames-in l)) (λ x e. rw e) (λ e. rw e (by-buffers (streams c l) f d))
+by-given c t l f d =
+    by-option (find crowded (frames-in l)) (λ x e. rw e) (λ e. rw e (by-buffers t (streams c l) f d))
 
 pub as-measured : AsMeasured
 unfolding answer outcome measure measuring
 as-measured c t w f d =
-    by-outcome (reading t w) (λ r e. rw e) (λ l e. rw e (by-given c (all-given l) f d))
+    by-outcome (reading t w) (λ r e. rw e) (λ l e. rw e (by-given c t (all-given l) f d))
 
 pub measured-fits : MeasuredFits
 measured-fits c t w f d =
@@ -98,10 +98,10 @@ unfolding measured
 measured-told c (refused r) h = h
 measured-told c (given l) h = crowded-told c (find crowded (frames-in (all-given l))) (all-given l)
 
-number-told : (o : Outcome Streams) → told o ≤ 7 → measured-number (needs-of o) ≤ 7
-number-told (refused r) h = h
-number-told (given s) h = h
+number-told : (t : List ℕ) (o : Outcome Streams) → told o ≤ 7 → measured-number (needs-of t o) ≤ 7
+number-told t (refused r) h = h
+number-told t (given s) h = h
 
 pub never-short : NeverShort
 unfolding measure measuring
-never-short c t w = number-told (measured-of c (reading t w)) (measured-told c (reading t w) (reading-told t w))
+never-short c t w = number-told t (measured-of c (reading t w)) (measured-told c (reading t w) (reading-told t w))

@@ -44,7 +44,7 @@ ConstantNeeded = Disturbs variable-first (variable-first ++ codes " $c x $.")
 pub record Unspaced (t m : List ℕ) (p : ℕ) : Type 0 where
   pub follows : Follows t (t ++ (32 ∷ m))
   pub is-quiet : Quiet t (t ++ (32 ∷ m))
-  pub is-refused : answer-to (t ++ m) ≡ Refused (BadToken p)
+  pub is-refused : answer-to (t ++ m) ≡ Refused (BadToken p) 1
 
 abbrev pub SpaceLeftOut : Type 0
 SpaceLeftOut = Unspaced (codes "$c c $.") (codes "$v x $.") 5

@@ -16,20 +16,20 @@ use Rattle.paper.specs.declared.Answer.the-variants.{Done, Refused}
 
 -- the writer's answer by the measure's
 abbrev pub written-as : Measured → ℕ → ℕ → Answer
-written-as (lengths.Refused r) f d = Refused r
+written-as (lengths.Refused r l) f d = Refused r l
 written-as (lengths.Needs x y n) f d =
-    choose (ltb f x) (Refused (ShortFrames x)) (choose (ltb d y) (Refused (ShortDiags y)) (Done x y n))
+    choose (ltb f x) (Refused (ShortFrames x) 0) (choose (ltb d y) (Refused (ShortDiags y) 0) (Done x y n))
 
 abbrev pub AsMeasured : Type 0
 AsMeasured = (c : Setting) (t : List ℕ) (w f d : ℕ) → answer c t w f d ≡ written-as (measure c t w) f d
 
 -- Where the measure gives lengths and the buffers have them, the writer is done with exactly these; a buffer that is shorter is
--- refused with them; a refusal of the measure is the writer's.
+-- refused with them; a refusal of the measure is the writer's, with its line.
 pub record Fitting (c : Setting) (t : List ℕ) (w f d : ℕ) : Type 0 where
   pub done : {x y n : ℕ} → measure c t w ≡ lengths.Needs x y n → x ≤ f → y ≤ d → answer c t w f d ≡ Done x y n
-  pub short-frames : {x y n : ℕ} → measure c t w ≡ lengths.Needs x y n → f < x → answer c t w f d ≡ Refused (ShortFrames x)
-  pub short-diags : {x y n : ℕ} → measure c t w ≡ lengths.Needs x y n → x ≤ f → d < y → answer c t w f d ≡ Refused (ShortDiags y)
-  pub refused : {r : Refusal} → measure c t w ≡ lengths.Refused r → answer c t w f d ≡ Refused r
+  pub short-frames : {x y n : ℕ} → measure c t w ≡ lengths.Needs x y n → f < x → answer c t w f d ≡ Refused (ShortFrames x) 0
+  pub short-diags : {x y n : ℕ} → measure c t w ≡ lengths.Needs x y n → x ≤ f → d < y → answer c t w f d ≡ Refused (ShortDiags y) 0
+  pub refused : {r : Refusal} {l : ℕ} → measure c t w ≡ lengths.Refused r l → answer c t w f d ≡ Refused r l
 
 abbrev pub MeasuredFits : Type 0
 MeasuredFits = (c : Setting) (t : List ℕ) (w f d : ℕ) → Fitting c t w f d

@@ -14,6 +14,7 @@ use Rattle.paper.specs.Tokens.{Token, put, run, toks}
 use Rattle.paper.proofs.Tests.{split}
 use Rattle.token.specs.Class.{class, lower, least}
 use Rattle.token.specs.Words.{gap, word, past-gap, span-from, tokens-from}
+use Rattle.token.specs.declared.cursor.Cursor.{Cursor}
 
 -- ---- byte by byte: at the end, where it stops, where it goes on
 module _ (t : List ℕ) (i : ℕ) where
@@ -29,18 +30,18 @@ module _ (t : List ℕ) (i : ℕ) where
   unfolding gap past-gap
   gap-step h e = rw (add-one, drop-cons t i 0, e) (omega arith)
 
-  pub span-end : (s a : ℕ) → length t ≤ i → span-from t s i a ≡ record { start = s; stop = i; least = a }
+  pub span-end : (c : Cursor) (a : ℕ) → length t ≤ i → span-from t c i a ≡ record { start = c .at; stop = i; least = a; line = c .line }
   unfolding word least span-from
-  span-end s a h = rw (drop-of-length-le, add-zero)
+  span-end c a h = rw (drop-of-length-le, add-zero)
 
-  pub span-stop : (s a : ℕ) → i < length t → white (getD t i 0) ≡ true → span-from t s i a ≡ record { start = s; stop = i; least = a }
+  pub span-stop : (c : Cursor) (a : ℕ) → i < length t → white (getD t i 0) ≡ true → span-from t c i a ≡ record { start = c .at; stop = i; least = a; line = c .line }
   unfolding word least span-from
-  span-stop s a h e = rw (drop-cons t i 0, e, add-zero)
+  span-stop c a h e = rw (drop-cons t i 0, e, add-zero)
 
-  pub span-step : (s a : ℕ) → i < length t → white (getD t i 0) ≡ false
-      → span-from t s (i + 1) (lower a (class (getD t i 0))) ≡ span-from t s i a
+  pub span-step : (c : Cursor) (a : ℕ) → i < length t → white (getD t i 0) ≡ false
+      → span-from t c (i + 1) (lower a (class (getD t i 0))) ≡ span-from t c i a
   unfolding word least span-from
-  span-step s a h e = rw (add-one, drop-cons t i 0, e, add-suc, suc-add)
+  span-step c a h e = rw (add-one, drop-cons t i 0, e, add-suc, suc-add)
 
 -- ---- token by token, by the list
 run-head : (l : List ℕ) (o : ℕ) → run l o .head ≡ word l
@@ -75,7 +76,7 @@ toks-word [] o h e = absurd (not-suc-le-zero h)
 toks-word (b ∷ l) o h e = rw (run-head (b ∷ l) o, run-rest (b ∷ l) o) (put-word b l o _ e)
 
 -- ---- the first word of some bytes
-word-take : (l : List ℕ) → word l ≡ take (length (word l)) l
+pub word-take : (l : List ℕ) → word l ≡ take (length (word l)) l
 unfolding word
 word-take [] = refl
 word-take (b ∷ l) = split (white b) (λ e. rw e) (λ e. rw e (ap (λ (h : List ℕ). b ∷ h) (word-take l)))

@@ -97,15 +97,20 @@ fn assert_kept(buffer: &[u8], used: usize, name: &str, which: &str) {
     assert_eq!(changed, None, "{name}: a byte of the {which} past the used part is changed");
 }
 
-/// What must hold of every answer: the number is at most `most`, words that nothing speaks of are 0, and so are the lengths of a
-/// refusal.
-fn assert_answer(name: &str, answer: &Answer, most: u32) {
+/// The line that a number has beside its place.
+pub fn line_of(text: &[u8], number: u32, place: u64) -> u64 {
+    match number {
+        3..=5 => 1 + text[..place as usize].iter().filter(|&&b| b == 10).count() as u64,
+        _ => 0,
+    }
+}
+
+/// What must hold of every answer: the number is at most `most`, the line is that of the place, words that nothing speaks of are 0,
+/// and so are the lengths of a refusal.
+fn assert_answer(name: &str, text: &[u8], answer: &Answer, most: u32) {
     assert!(answer.number <= most, "{name}: number {}", answer.number);
-    assert_eq!(
-        (answer.segment, answer.line, answer.verdicts, answer.spare),
-        (0, 0, 0, 0),
-        "{name}: words not spoken of"
-    );
+    assert_eq!(answer.line, line_of(text, answer.number, answer.place), "{name}: line");
+    assert_eq!((answer.segment, answer.verdicts, answer.spare), (0, 0, 0), "{name}: words not spoken of");
     if answer.number == 0 {
         assert_eq!(answer.place, 0, "{name}: place");
     } else {
@@ -122,7 +127,7 @@ fn work_area(text: &[u8], words: usize) -> Vec<u32> {
 pub fn measured(name: &str, text: &[u8], words: usize) -> Answer {
     let mut work = work_area(text, words);
     let answer = measure(text, &mut work, true);
-    assert_answer(name, &answer, 7);
+    assert_answer(name, text, &answer, 7);
     assert!(work.iter().all(|&w| w == 0), "{name}: work area after the measure");
     answer
 }
@@ -134,7 +139,7 @@ pub fn run(name: &str, text: &[u8], words: usize, frames_length: usize, diags_le
     let mut frames = filled(frames_length);
     let mut diags = filled(diags_length);
     let answer = write(text, &mut work, &mut frames, &mut diags, true);
-    assert_answer(name, &answer, 9);
+    assert_answer(name, text, &answer, 9);
     assert_kept(&frames, answer.frames as usize, name, "frames");
     assert_kept(&diags, answer.diags as usize, name, "diagnostics");
     assert!(work.iter().all(|&w| w == 0), "{name}: work area");

@@ -1,6 +1,8 @@
+use Prim.Native.Nat.{zero-le}
 use native.Mathlib.Omega.{arith}
 use Rattle.token.proofs.Counts.{few-tokens}
-use Rattle.reader.proofs.Wholes.{counted-tokens, read-long, read-short, read-bad, read-begin, read-good}
+use Rattle.token.proofs.Lines.{line-start}
+use Rattle.reader.proofs.Unread.{bad-inside, counted-tokens, read-long, read-short, read-bad, read-begin, read-good}
 use borrow.Author.Needs.{needs}
 use Rattle.reader.proofs.read.Statement.{statement}
 use Rattle.reader.proofs.read.Tie as tie
@@ -10,6 +12,8 @@ use Rattle.area.proofs.clear.Reads as clear-reads
 use Rattle.reader.proofs.whole.read_text.Reads as read-text-reads
 use Rattle.token.proofs.class.table.Reads as table-reads
 use Rattle.token.proofs.count.count.Reads as count-reads
+use Rattle.token.proofs.cursor.Cursor.hop.Reads as hop-reads
+use Rattle.token.proofs.cursor.text_start.Reads as text-start-reads
 
 clear-requires : tie.Need-clear-requires
 clear-requires c κs = search needs
@@ -29,8 +33,8 @@ add-n c = omega (arith, counted-tokens _ (c .before .count .ensures), few-tokens
 mul-if2 : tie.Need-mul-if2
 mul-if2 c = omega (arith, counted-tokens _ (c .before .count .ensures), few-tokens (c .before .before .before .before .before .before .before .before .before .args .text .now))
 
-mul-t15 : tie.Need-mul-t15
-mul-t15 c = omega (arith, counted-tokens _ (c .before .before .count .ensures), few-tokens (c .before .before .before .before .before .before .before .before .before .before .args .text .now))
+mul-t16 : tie.Need-mul-t16
+mul-t16 c = omega (arith, counted-tokens _ (c .before .before .count .ensures), few-tokens (c .before .before .before .before .before .before .before .before .before .before .args .text .now))
 
 same-length-2 : tie.Need-same-length-2
 same-length-2 c = search needs
@@ -40,6 +44,12 @@ returns-2 c = read-short _ (c .before .before .before .before .before .before .b
 
 enum-known-bad : tie.Need-enum-known-bad
 enum-known-bad c = search needs
+
+text-start-requires : tie.Need-text-start-requires
+text-start-requires c κs = search needs
+
+hop-requires : tie.Need-hop-requires
+hop-requires c κs = (rw (c .text-start .ensures) (line-start _), rw (c .text-start .ensures) zero-le, bad-inside _ (c .before .before .before .before .before .before .count .ensures) (c .before .before .bad .given .1))
 
 enum-told : tie.Need-enum-told
 enum-told c = search needs
@@ -54,7 +64,7 @@ same-length-3 : tie.Need-same-length-3
 same-length-3 c = search needs
 
 returns-3 : tie.Need-returns-3
-returns-3 c = read-bad _ (c .before .before .before .before .before .before .before .before .before .before .before .before .before .args .work .now) (c .before .before .before .before .before .before .before .before .before .clear .ensures) (c .before .before .before .before .before .before .if1 .left) (c .before .before .before .before .before .count .ensures) (search needs) _ (c .before .bad .given .1)
+returns-3 c = read-bad _ (c .before .before .before .before .before .before .before .before .before .before .before .before .before .before .before .args .work .now) (c .before .before .before .before .before .before .before .before .before .before .before .clear .ensures) (c .before .before .before .before .before .before .before .before .if1 .left) (c .before .before .before .before .before .before .before .count .ensures) (search needs) _ (c .before .before .before .bad .given .1) (c .hop .ensures .0) (c .hop .ensures .1)
 
 same-length-4 : tie.Need-same-length-4
 same-length-4 c = search needs
@@ -72,10 +82,12 @@ read-spec =
     count-requires
     add-n
     mul-if2
-    mul-t15
+    mul-t16
     same-length-2
     returns-2
     enum-known-bad
+    text-start-requires
+    hop-requires
     enum-told
     table-requires
     read-text-requires

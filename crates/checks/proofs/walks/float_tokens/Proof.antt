@@ -1,6 +1,8 @@
 use Prim.Native.Nat.{_≤_}
 use native.Mathlib.Omega.{arith}
 use lib.ListN.{length}
+use Rattle.token.specs.Words.{Lined}
+use Rattle.token.proofs.Lines.{line-start}
 use Rattle.checks.specs.Visible.{visible-from, First}
 use Rattle.checks.specs.Walks.{LastTwo}
 use Rattle.checks.proofs.Comments.{first-of, refused-none, none-of, left-calm}
@@ -16,7 +18,7 @@ use Rattle.slots.proofs.cells.of_math.Reads as of-math-reads
 use Rattle.token.proofs.class.table.Reads as table-reads
 
 abbrev Inv-loop : tie.InvT-loop
-Inv-loop part work n first classes typecode₀ variable₀ i₀ c₀ typecode variable i c = LastTwo work n first i typecode variable × Left part (c .at) i × (i ≤ length (visible-from part 0))
+Inv-loop part work n first classes typecode₀ variable₀ i₀ c₀ typecode variable i c = LastTwo work n first i typecode variable × Left part (c .at) i × (i ≤ length (visible-from part 0)) × Lined part c
 
 abbrev μ-loop : tie.MeasureT-loop
 μ-loop part work n first classes typecode₀ variable₀ i₀ c₀ typecode variable i c = length (visible-from part (c .at))
@@ -26,16 +28,19 @@ abbrev μ-loop : tie.MeasureT-loop
 took : (c : tie.After-known-told Inv-loop μ-loop) → First (c .before .before .before .before .before .before .before .before .before .args .part .now) (c .before .before .before .before .before .loop .c .at) (c .before .d .given .0 .0 .start) (c .before .d .given .0 .1 .0 .at)
 took c = first-of (rw (c .before .d .given .1) at (c .before .before .before .next-visible .ensures))
 
+lined : (c : tie.After-known-told Inv-loop μ-loop) → Lined (c .before .before .before .before .before .before .before .before .before .args .part .now) (c .before .d .given .0 .1 .0)
+lined c = (rw (c .before .d .given .1) at (c .before .before .before .next-visible .ensures)) .lined
+
 -- end own --
 
 table-requires : tie.Need-table-requires Inv-loop μ-loop
 table-requires c κs = search needs
 
 loop-holds : tie.Need-loop-holds Inv-loop μ-loop
-loop-holds c = (two-start, left-start _, omega arith)
+loop-holds c = (two-start, left-start _, omega arith, line-start _)
 
 next-visible-requires : tie.Need-next-visible-requires Inv-loop μ-loop
-next-visible-requires c κs = search needs
+next-visible-requires c κs = (search needs, c .before .loop .inv .3)
 
 enum-known-d : tie.Need-enum-known-d Inv-loop μ-loop
 enum-known-d c = search needs
@@ -53,7 +58,7 @@ loop-less : tie.Need-loop-less Inv-loop μ-loop
 loop-less c = left-less (took (c .before))
 
 loop-again : tie.Need-loop-again Inv-loop μ-loop
-loop-again c = let x = take-one (c .before .before .before .before .before .before .loop .inv .1) (took (c .before)) in (two-more (c .before .before .before .before .before .before .loop .inv .0) (c .of-math .ensures), x .left, omega (arith, x .inside))
+loop-again c = let x = take-one (c .before .before .before .before .before .before .loop .inv .1) (took (c .before)) in (two-more (c .before .before .before .before .before .before .loop .inv .0) (c .of-math .ensures), x .left, omega (arith, x .inside), lined (c .before))
 
 enum-told : tie.Need-enum-told Inv-loop μ-loop
 enum-told c = search needs

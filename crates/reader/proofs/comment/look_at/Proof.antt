@@ -52,13 +52,13 @@ unfolding key
 returns-3 c = look-plain (took (c .before .before .before .before .before)) (sym (c .before .is-key .ensures) ∙ not-true _ (c .if2 .taken))
 
 comment-end-requires : tie.Need-comment-end-requires
-comment-end-requires c κs = (c .before .before .before .before .before .before .before .before .before .before .pre, rw (took (c .before .before .before .before .before) .stands) (took (c .before .before .before .before .before) .whole .within))
+comment-end-requires c κs = (c .before .before .before .before .before .before .before .before .before .before .pre .0, rw (took (c .before .before .before .before .before) .stands) (took (c .before .before .before .before .before) .whole .within), took (c .before .before .before .before .before) .lined)
 
 enum-known-e : tie.Need-enum-known-e
 enum-known-e c = search needs
 
-enum-known-p : tie.Need-enum-known-p
-enum-known-p c = search needs
+enum-known-b : tie.Need-enum-known-b
+enum-known-b c = search needs
 
 enum-told-2 : tie.Need-enum-told-2
 enum-told-2 c = search needs
@@ -69,7 +69,7 @@ returns-4 c = look-past (took (c .before .before .before .before .before .before
 
 returns-5 : tie.Need-returns-5
 unfolding key
-returns-5 c = look-bad (took (c .before .before .before .before .before .before .before .before .before)) (sym (c .before .before .before .before .before .is-key .ensures) ∙ not-false _ (c .before .before .before .before .if2 .left)) _ (rw (c .before .p .given .1) at (c .before .before .before .comment-end .ensures))
+returns-5 c = look-bad (took (c .before .before .before .before .before .before .before .before .before)) (sym (c .before .before .before .before .before .is-key .ensures) ∙ not-false _ (c .before .before .before .before .if2 .left)) _ (rw (c .before .b .given .1) at (c .before .before .before .comment-end .ensures))
 
 returns-6 : tie.Need-returns-6
 unfolding key
@@ -91,7 +91,7 @@ look-at-spec =
     returns-3
     comment-end-requires
     enum-known-e
-    enum-known-p
+    enum-known-b
     enum-told-2
     returns-4
     returns-5

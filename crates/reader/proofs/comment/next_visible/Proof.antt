@@ -3,7 +3,7 @@ use Prim.Native.Nat.{_≤_}
 use native.Mathlib.Omega.{arith}
 use lib.ListN.{length}
 use Rattle.paper.specs.Comments.{outside}
-use Rattle.token.specs.Words.{tokens-from}
+use Rattle.token.specs.Words.{tokens-from, Lined}
 use Rattle.reader.specs.Passed.{Passed}
 use Rattle.reader.proofs.Passes.{passed-none, passed-then, shows-after}
 use Rattle.reader.proofs.Looks.{refuses-after}
@@ -15,16 +15,16 @@ use Rattle.reader.proofs.comment.next_visible.Lts as lts
 use Rattle.reader.proofs.comment.look_at.Reads as look-at-reads
 
 abbrev Inv-loop : tie.InvT-loop
-Inv-loop table text i₀ i = Passed text (i₀ .at) (i .at) outside [] outside × (i₀ .at ≤ i .at)
+Inv-loop table text i₀ i = Passed text (i₀ .at) (i .at) outside [] outside × (i₀ .at ≤ i .at) × Lined text i
 
 abbrev μ-loop : tie.MeasureT-loop
 μ-loop table text i₀ i = length (tokens-from text (i .at))
 
 loop-holds : tie.Need-loop-holds Inv-loop μ-loop
-loop-holds c = (passed-none _ _ _, search needs)
+loop-holds c = (passed-none _ _ _, search needs, c .before .pre .1)
 
 look-at-requires : tie.Need-look-at-requires Inv-loop μ-loop
-look-at-requires c κs = search needs
+look-at-requires c κs = (c .before .before .pre .0, c .loop .inv .2)
 
 enum-known-x : tie.Need-enum-known-x Inv-loop μ-loop
 enum-known-x c = search needs
@@ -41,7 +41,7 @@ loop-less c = (rw (c .before .d .given .1) at (c .before .before .before .look-a
 loop-again : tie.Need-loop-again Inv-loop μ-loop
 loop-again c =
     let h = rw (c .before .d .given .1) at (c .before .before .before .look-at .ensures) in
-    (passed-then (c .before .before .before .before .loop .inv .0) (h .0), omega (arith, c .before .before .before .before .loop .inv .1, h .2))
+    (passed-then (c .before .before .before .before .loop .inv .0) (h .0), omega (arith, c .before .before .before .before .loop .inv .1, h .2), h .3)
 
 enum-known-x-2 : tie.Need-enum-known-x-2 Inv-loop μ-loop
 enum-known-x-2 c = search needs

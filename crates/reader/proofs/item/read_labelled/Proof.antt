@@ -17,7 +17,7 @@ shows c = rw (c .before .y .given .1) at (c .before .before .before .next-visibl
 -- end own --
 
 next-visible-requires : tie.Need-next-visible-requires
-next-visible-requires c κs = search needs
+next-visible-requires c κs = (c .before .before .pre .0, c .before .before .pre .2 .lined)
 
 enum-told : tie.Need-enum-told
 enum-told c = search needs
@@ -34,8 +34,8 @@ label-code-requires c κs = (omega (arith, shows c .whole .some), omega (arith, 
 returns : tie.Need-returns
 returns c = label-bad (c .before .before .before .before .before .before .before .before .pre .1) (c .before .before .before .before .before .before .before .before .pre .2) (c .before .before .before .before .before .before .before .before .pre .3) (shows (c .before .before)) (c .before .label-code .ensures) (c .if1 .taken)
 
-sub-t23 : tie.Need-sub-t23
-sub-t23 c = omega (arith, c .before .before .before .before .before .before .before .before .pre .2 .whole .some)
+sub-t24 : tie.Need-sub-t24
+sub-t24 c = omega (arith, c .before .before .before .before .before .before .before .before .pre .2 .whole .some)
 
 read-body-requires : tie.Need-read-body-requires
 read-body-requires c κs = (c .before .before .before .before .before .before .before .before .before .pre .0, label-begun (c .before .before .before .before .before .before .before .before .before .pre .1) (c .before .before .before .before .before .before .before .before .before .pre .2) (c .before .before .before .before .before .before .before .before .before .pre .3) (shows (c .before .before .before)) (c .before .before .label-code .ensures) (c .before .if1 .left))
@@ -62,7 +62,7 @@ read-labelled-spec =
     enum-known-y
     label-code-requires
     returns
-    sub-t23
+    sub-t24
     read-body-requires
     returns-2
     returns-3

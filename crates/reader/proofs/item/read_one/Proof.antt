@@ -9,7 +9,7 @@ use Rattle.reader.proofs.comment.next_visible.Reads as next-visible-rea
 use Rattle.reader.proofs.item.read_from.Reads as read-from-reads
 
 next-visible-requires : tie.Need-next-visible-requires
-next-visible-requires c κs = search needs
+next-visible-requires c κs = (c .before .before .pre .0, c .before .before .pre .1 .lined)
 
 enum-told : tie.Need-enum-told
 enum-told c = search needs
@@ -27,7 +27,9 @@ returns : tie.Need-returns
 returns c = (rw (c .enum-told .given .1) at (c .before .before .next-visible .ensures), refl)
 
 returns-2 : tie.Need-returns-2
-returns-2 c = (rw (c .before .x .given .1) at (c .before .before .before .next-visible .ensures)) .items-are (c .before .before .before .before .before .before .pre .1 .reached)
+returns-2 c =
+    let h = rw (c .before .x .given .1) at (c .before .before .before .next-visible .ensures) in
+    (h .items-are (c .before .before .before .before .before .before .pre .1 .reached), h .line)
 
 same-length : tie.Need-same-length
 same-length c = search needs

@@ -10,7 +10,7 @@ use Rattle.reader.proofs.proof.read_proof.Reads as read-proof-reads
 use Rattle.reader.proofs.state.keep.Reads as keep-reads
 
 read-proof-requires : tie.Need-read-proof-requires
-read-proof-requires c κs = search needs
+read-proof-requires c κs = (c .before .before .pre .0, c .before .before .pre .2)
 
 close-run-requires : tie.Need-close-run-requires
 close-run-requires c κs = search needs
@@ -25,7 +25,7 @@ keep-requires : tie.Need-keep-requires
 keep-requires c κs = proof-room (c .before .before .before .before .before .before .before .before .pre .1) (c .before .before .before .before .before .read-proof .ensures) _ (sym (c .before .before .d .given .1) ∙ c .before .before .before .before .close-run .ensures)
 
 returns : tie.Need-returns
-returns c = proof-refused (c .before .before .before .before .before .before .before .pre .1) (c .before .before .before .before .read-proof .ensures) _ (sym (c .before .x .given .1) ∙ c .before .before .before .close-run .ensures)
+returns c = proof-refused (c .before .before .before .before .before .before .before .pre .1) (c .before .before .before .before .read-proof .ensures) _ _ (sym (c .before .x .given .1) ∙ c .before .before .before .close-run .ensures)
 
 same-length : tie.Need-same-length
 same-length c = search needs

@@ -9,6 +9,7 @@ use Rattle.reader.proofs.whole.read_all.Tie as tie
 use Rattle.reader.proofs.whole.read_all.Reads as reads
 use Rattle.reader.proofs.whole.read_all.Lts as lts
 use Rattle.reader.proofs.item.read_one.Reads as read-one-reads
+use Rattle.token.proofs.cursor.text_start.Reads as text-start-reads
 
 abbrev Inv-loop : tie.InvT-loop
 Inv-loop table text work₀ n s₀ work s = Held text work n s × (length work ≡ length work₀)
@@ -16,11 +17,14 @@ Inv-loop table text work₀ n s₀ work s = Held text work n s × (length work �
 abbrev μ-loop : tie.MeasureT-loop
 μ-loop table text work₀ n s₀ work s = length (tokens-from text (s .cursor .at))
 
+text-start-requires : tie.Need-text-start-requires Inv-loop μ-loop
+text-start-requires c κs = search needs
+
 loop-holds : tie.Need-loop-holds Inv-loop μ-loop
-loop-holds c = (held-start (c .before .before .pre .1), refl)
+loop-holds c = (held-start (c .text-start .ensures) (c .before .before .before .pre .1), refl)
 
 read-one-requires : tie.Need-read-one-requires Inv-loop μ-loop
-read-one-requires c κs = (c .before .before .before .before .pre .0, c .before .loop .inv .0)
+read-one-requires c κs = (c .before .before .before .before .before .pre .0, c .before .loop .inv .0)
 
 enum-known-r : tie.Need-enum-known-r Inv-loop μ-loop
 enum-known-r c = search needs
@@ -65,6 +69,7 @@ read-all-spec =
     (tie.spec
     Inv-loop
     μ-loop
+    text-start-requires
     loop-holds
     read-one-requires
     enum-known-r

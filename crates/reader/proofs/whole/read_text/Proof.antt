@@ -46,10 +46,10 @@ clear-part-requires : tie.Need-clear-part-requires
 clear-part-requires c κs = let f = done (c .before .before .before .before .before .before) in (omega arith, omega (arith, f .items-few, f .words .room, c .before .before .before .before .set-ends .kept .0))
 
 mul-clear-part-3 : tie.Need-mul-clear-part-3
-mul-clear-part-3 c = search needs
+mul-clear-part-3 c = let f = done (c .before .before .before .before .before .before .before .before .before .before) in omega (arith, small-rows f)
 
 mul-clear-part-4 : tie.Need-mul-clear-part-4
-mul-clear-part-4 c = search needs
+mul-clear-part-4 c = let f = done (c .before .before .before .before .before .before .before .before .before .before) in omega (arith, small-rows f)
 
 add-clear-part-2 : tie.Need-add-clear-part-2
 add-clear-part-2 c = let f = done (c .before .before .before .before .before .before .before .before .before .before .before) in omega (arith, f .items-few, small-rows f)
@@ -61,7 +61,7 @@ same-length : tie.Need-same-length
 same-length c = search needs
 
 returns : tie.Need-returns
-returns c = text-refused _ _ (rw (c .before .before .before .before .before .before .before .before .before .read-all .kept .1 .1 .0) at (c .before .before .clear .ensures)) _ (rw (c .before .before .before .before .before .x .given .1) at (c .before .before .before .before .before .before .before .before .before .read-all .ensures))
+returns c = text-refused _ _ (rw (c .before .before .before .before .before .before .before .before .before .read-all .kept .1 .1 .0) at (c .before .before .clear .ensures)) _ _ (rw (c .before .before .before .before .before .x .given .1) at (c .before .before .before .before .before .before .before .before .before .read-all .ensures))
 
 same-length-2 : tie.Need-same-length-2
 same-length-2 c = search needs

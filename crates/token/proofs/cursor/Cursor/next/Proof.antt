@@ -15,13 +15,13 @@ skip-white-requires : tie.Need-skip-white-requires
 skip-white-requires c κs = search needs
 
 returns : tie.Need-returns
-returns c = sym (ap next-of (tokens-done _ _ (omega (arith, c .before .before .skip-white .ensures))))
+returns c = sym (ap (next-of _) (tokens-done _ _ (omega (arith, c .before .before .skip-white .ensures .0))))
 
 to-white-requires : tie.Need-to-white-requires
 to-white-requires c κs = search needs
 
 returns-2 : tie.Need-returns-2
-returns-2 c = next-is _ _ _ _ (c .before .before .before .skip-white .ensures) (search needs) (c .to-white .ensures)
+returns-2 c = next-is _ _ _ _ (c .before .before .before .skip-white .ensures .0) (c .before .before .before .skip-white .ensures .1) (search needs) (c .to-white .ensures)
 
 pub next-spec : {M : Type 1} → statement M
 next-spec = tie.close (tie.spec skip-white-requires returns to-white-requires returns-2)

@@ -13,10 +13,10 @@ use Rattle.token.proofs.class.class_of.Reads as class-of-reads
 use Rattle.token.proofs.cursor.lower_of.Reads as lower-of-reads
 
 abbrev Inv-loop : tie.InvT-loop
-Inv-loop table text start at₀ least₀ at least = span-from text start at least ≡ span-from text start at₀ least₀
+Inv-loop table text start line at₀ least₀ at least = span-from text (record { at = start; line = line }) at least ≡ span-from text (record { at = start; line = line }) at₀ least₀
 
 abbrev μ-loop : tie.MeasureT-loop
-μ-loop table text start at₀ least₀ at least = length text - at
+μ-loop table text start line at₀ least₀ at least = length text - at
 
 loop-holds : tie.Need-loop-holds Inv-loop μ-loop
 loop-holds c = search needs
