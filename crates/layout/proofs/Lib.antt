@@ -1,0 +1,9 @@
+pub mod Cuts
+pub mod Lowered
+pub mod Hypotheses
+pub mod Tails
+pub mod Fit
+pub mod Streams
+pub mod Local
+pub mod Stubs
+pub mod Renewing

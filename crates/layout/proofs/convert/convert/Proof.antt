@@ -1,0 +1,4 @@
+use Rattle.layout.proofs.convert.convert.Statement.{statement}
+
+pub convert-spec : {M : Type 1} → statement M
+convert-spec = ?
