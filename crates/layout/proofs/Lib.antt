@@ -7,3 +7,4 @@ pub mod Streams
 pub mod Local
 pub mod Stubs
 pub mod Renewing
+pub mod Converted

@@ -65,16 +65,17 @@ local-counted k l p r e =
     (λ t.
     let n = 4 + k * u32-at l 0 in
     let h : 4 ≤ length l = ltb-false (length l) 4 t in
-    let a = part-piece n l p r (rw t at e) in
-    (n,
-    record {
-      room = a .room;
-      rest = a .rest;
-      same = λ m g h.
-          let u : u32-at m 0 ≡ u32-at l 0 =
-          sym (u32-front m n (omega arith)) ∙ ap (λ x. u32-at x 0) h ∙ u32-front l n (omega arith) in
-          rw (le-ltb (length m) 4 (omega arith), u) (a .same m g h);
-    }))
+    let a = part-piece n l p r (rw t at e) in (
+      n,
+      record {
+        room = a .room;
+        rest = a .rest;
+        same = λ m g h.
+            let u : u32-at m 0 ≡ u32-at l 0 =
+            sym (u32-front m n (omega arith)) ∙ ap (λ x. u32-at x 0) h ∙ u32-front l n (omega arith) in
+            rw (le-ltb (length m) 4 (omega arith), u) (a .same m g h);
+      },
+    ))
 
 -- ---- a part and then others; parts left out
 pub local-then : (f g : List ℕ → Cut) → Local f → Local g → Local (λ l. then (f l) g)
@@ -95,20 +96,21 @@ local-then f g a b l p r e =
     let w : p ≡ p₁ ++ p₂ = cc in
     let o : r ≡ r₂ = cc in
     let d : length r₁ ≡ length l - i = ap length (s .rest) ∙ length-drop i l in
-    let k : i + j ≤ length l = omega (arith, s .room, t .room) in
-    (i + j,
-    record {
-      room = k;
-      rest = o ∙ t .rest ∙ ap (drop j) (s .rest) ∙ drop-drop j i l;
-      same = λ m c h.
-          let n : i ≤ length m = omega (arith, s .room) in
-          let u : f m ≡ cut p₁ (drop i m) = s .same m c (sym (front m i j) ∙ ap (take i) h ∙ front l i j) in
-          let c₂ : length (drop i m) ≡ length r₁ = length-drop i m ∙ ap (λ x. x - i) c ∙ sym d in
-          let h₂ : take j (drop i m) ≡ take j r₁ =
-          sym (middle m i j n) ∙ ap (drop i) h ∙ middle l i j (s .room) ∙ ap (take j) (sym (s .rest)) in
-          let x₂ : g (drop i m) ≡ cut p₂ (drop j (drop i m)) = t .same (drop i m) c₂ h₂ in
-          rw (u, x₂, w, drop-drop j i m);
-    })))
+    let k : i + j ≤ length l = omega (arith, s .room, t .room) in (
+      i + j,
+      record {
+        room = k;
+        rest = o ∙ t .rest ∙ ap (drop j) (s .rest) ∙ drop-drop j i l;
+        same = λ m c h.
+            let n : i ≤ length m = omega (arith, s .room) in
+            let u : f m ≡ cut p₁ (drop i m) = s .same m c (sym (front m i j) ∙ ap (take i) h ∙ front l i j) in
+            let c₂ : length (drop i m) ≡ length r₁ = length-drop i m ∙ ap (λ x. x - i) c ∙ sym d in
+            let h₂ : take j (drop i m) ≡ take j r₁ =
+            sym (middle m i j n) ∙ ap (drop i) h ∙ middle l i j (s .room) ∙ ap (take j) (sym (s .rest)) in
+            let x₂ : g (drop i m) ≡ cut p₂ (drop j (drop i m)) = t .same (drop i m) c₂ h₂ in
+            rw (u, x₂, w, drop-drop j i m);
+      },
+    )))
 
 pub local-skipped : (f : List ℕ → Cut) → Local f → Local (λ l. skipped (f l))
 local-skipped f a l p r e =

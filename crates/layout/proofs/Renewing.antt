@@ -7,7 +7,7 @@ use mathlib.Core.Option.{Option, none, some}
 use Prim.Native.Nat.{ℕ, _+_, _-_, _<_, _≤_}
 use native.Mathlib.Omega.{arith}
 use lib.ListN.{length, take, drop, length-append, length-drop}
-use lib.Seq.{length-take-le}
+use lib.Seq.{length-take-le, take-all}
 use lib.Dec.{eqb}
 use borrow.Author.Tests.{eq-eqb, ne-eqb, eqb-true, le-ltb, lt-ltb}
 use Rattle.paper.specs.Base.{gather}
@@ -39,6 +39,10 @@ renewed-other r n = rw (ne-eqb (u16-at r 4) 1 n)
 pub renewed-old : (r : List ℕ) → u16-at r 4 ≡ 1 → renewed r ≡ take 4 r ++ (u16 4 ++ lowered (drop 6 r))
 unfolding renewed
 renewed-old r e = rw (eq-eqb (u16-at r 4) 1 e)
+
+-- the bytes from a place to the end, as a part of the list
+pub part-rest : (l : List ℕ) (k : ℕ) → take (length l - k) (drop k l) ≡ drop k l
+part-rest l k = take-all (length l - k) (drop k l) (simp length-drop (omega arith))
 
 pub fits-shape : (r : List ℕ) → fits r ≡ true → record-shape r ≡ shape-of (u16-at r 4) (drop 6 r)
 unfolding record-shape

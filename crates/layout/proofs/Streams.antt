@@ -26,13 +26,13 @@ use Rattle.layout.proofs.Fit.{Fitting, fitting-stands, fitting-not, fro
 unfoldable pub records-at : List ℕ → ℕ → List (List ℕ)
 records-at s at = records-after (drop at s) 0
 
-records-skip : (l : List ℕ) (k : ℕ) → records-after l k ≡ records-after (drop k l) 0
+pub records-skip : (l : List ℕ) (k : ℕ) → records-after l k ≡ records-after (drop k l) 0
 unfolding records-after
 records-skip [] k = rw (drop-nil {A = ℕ} k)
 records-skip (b ∷ l) zero = refl
 records-skip (b ∷ l) (suc k) = records-skip l k
 
-records-cons : (l : List ℕ) → 0 < length l → records-after l 0 ≡ take (4 + u32-at l 0) l ∷ records-after (drop 1 l) (3 + u32-at l 0)
+pub records-cons : (l : List ℕ) → 0 < length l → records-after l 0 ≡ take (4 + u32-at l 0) l ∷ records-after (drop 1 l) (3 + u32-at l 0)
 unfolding records-after
 records-cons [] h = absurd (not-suc-le-zero h)
 records-cons (b ∷ l) h = refl

@@ -6,8 +6,8 @@ use mathlib.Core.List.{List, [], _∷_, _++_}
 use Prim.Native.Nat.{ℕ, _+_, _-_, _*_, _<_, _≤_}
 use native.Mathlib.Omega.{arith}
 use lib.Dec.{ltb}
-use lib.ListN.{length, take, drop, length-drop, drop-of-length-le}
-use lib.Seq.{take-all}
+use lib.ListN.{length, take, drop, length-drop}
+use lib.Seq.{take-all, take-length, drop-length}
 use borrow.Author.Tests.{le-ltb, ltb-false}
 use Rattle.paper.specs.Lookup.{u32-at}
 use Rattle.paper.specs.Layout.{stub-string, lowered, Cut, short, cut, part, then, counted, a-string, a-stub, float-head}
@@ -39,7 +39,7 @@ stub-ending r e =
     (λ v.
     let n = 4 + 1 * u32-at r 0 in
     let k : n ≤ length r = ltb-false (length r) n u in
-    let z : length (drop n r) ≡ 0 = all-cut _ (drop n r) (rw (t, u, v) at e) in
+    let z : length (drop n r) ≡ 0 = all-cut (lowered (take n r) ∷ []) (drop n r) (rw (t, u, v) at e) in
     let s : length r ≡ n = omega (arith, length-drop n r) in
     record { size = omega arith; stub = ap (λ x. stub-string (drop 4 x)) (sym (take-all n r (omega arith))) ∙ v })
     (λ v. absurd (clash (sym (rw (t, u, v) at e))))))
@@ -49,7 +49,7 @@ ending-stub : (r : List ℕ) → Ending r → a-stub r ≡ cut (lowered r ∷ []
 unfolding a-stub counted part
 ending-stub r a =
     let n : 4 + 1 * u32-at r 0 ≡ length r = omega (arith, a .size) in
-    rw (le-ltb (length r) 4 (omega (arith, a .size)), n, le-ltb (length r) (length r) (omega arith), take-all (length r) r (omega arith), drop-of-length-le r (omega arith), a .stub)
+    rw (le-ltb (length r) 4 (omega (arith, a .size)), n, le-ltb (length r) (length r) (omega arith), take-length r, drop-length r, a .stub)
 
 ending-plain : (r : List ℕ) → Ending r → a-string (lowered r) ≡ cut (lowered r ∷ []) []
 unfolding counted part
@@ -61,7 +61,7 @@ ending-plain r a =
     let u : u32-at m 0 ≡ u32-at r 0 =
     sym (u32-front m 4 (omega arith)) ∙ ap (λ x. u32-at x 0) (lowered-take r 4 f) ∙ u32-front r 4 (omega arith) in
     let n : 4 + 1 * u32-at r 0 ≡ length m = omega (arith, a .size) in
-    rw (u, le-ltb (length m) 4 (omega arith), n, le-ltb (length m) (length m) (omega arith), take-all (length m) m (omega arith), drop-of-length-le m (omega arith))
+    rw (u, le-ltb (length m) 4 (omega arith), n, le-ltb (length m) (length m) (omega arith), take-length m, drop-length m)
 
 -- ---- the whole payload
 pub record Stubbed (l : List ℕ) : Type 0 where

@@ -1,3 +1,4 @@
 pub mod Cuts
 pub mod Lowers
 pub mod Renewal
+pub mod Converted
