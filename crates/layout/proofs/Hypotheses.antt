@@ -9,8 +9,8 @@ use lib.Dec.{eqb}
 use lib.ListN.{length, take, drop}
 use lib.Seq.{take-add, take-take, drop-at, length-take-le}
 use borrow.Author.Tests.{ne-eqb, lt-ltb, le-ltb}
-use Rattle.paper.specs.Lookup.{u16-at, u32-at}
-use Rattle.paper.specs.Layout.{stub-string, lowered, Cut, short, cut, part, then, whole, times, counted, a-string, unstubbed, a-stub, hypothesis-tail, a-hypothesis, hypotheses-part}
+use Rattle.paper.specs.Lookup.{u16-at, u32-at, stub-string}
+use Rattle.paper.specs.Layout.{lowered, Cut, short, cut, part, then, whole, times, counted, a-string, unstubbed, a-stub, hypothesis-tail, a-hypothesis, hypotheses-part}
 use Rattle.layout.specs.Cuts.{Within, span, Came, Cuts, comes, falls}
 use Rattle.layout.specs.declared.cut.Reached.{Reached}
 use Rattle.layout.specs.declared.cut.Reached.the-variants.{Upto, Short}

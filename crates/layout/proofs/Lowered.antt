@@ -1,17 +1,18 @@
 -- Bytes with 128 taken off the last one: their number, the bytes before, and that a stub string has such a last byte.
 -- For the converter and the laws of what it writes.
 use mathlib.Core.Path.{_≡_, refl, sym, ap, _∙_}
-use mathlib.Core.Bool.{Bool, true, false}
+use mathlib.Core.Bool.{true, false}
 use mathlib.Core.List.{List, [], _∷_, _++_}
 use Prim.Native.Nat.{ℕ, zero, suc, _+_, _-_, _<_, _≤_}
-use native.Mathlib.Nat.{not-suc-le-zero, le-of-suc-le-suc}
+use native.Mathlib.Nat.{not-suc-le-zero}
 use native.Mathlib.Omega.{arith}
-use lib.Dec.{eqb, ltb}
-use lib.ListN.{length, getD, take, drop, length-drop, drop-of-length-le}
-use lib.Seq.{drop-cons, getD-drop}
-use borrow.Author.Tests.{lt-ltb, le-ltb, ltb-false, eqb-true}
-use Rattle.paper.specs.Layout.{stub-string, lowered}
-use Rattle.paper.proofs.Tests.{split, clash, eqb-ne}
+use lib.Dec.{ltb}
+use lib.ListN.{length, getD, take, drop, length-drop}
+use lib.Seq.{getD-drop}
+use borrow.Author.Tests.{ltb-false}
+use Rattle.paper.specs.Lookup.{stub-string}
+use Rattle.paper.specs.Layout.{lowered}
+use Rattle.paper.proofs.Tests.{split, clash}
 use Rattle.layout.specs.Lowers.{Lowers}
 
 pub lowered-last : (l : List ℕ) (k : ℕ) → length l ≡ k + 1 → lowered l ≡ take k l ++ ((getD l k 0 - 128) ∷ [])
@@ -66,35 +67,3 @@ lowers-drop l k a =
       some = omega (arith, a .some);
       high = rw (getD-drop k l (length (drop k l) - 1) 0, i) at (a .high);
     }
-
--- ---- byte by byte
-one-high : (b : ℕ) (r : List ℕ) → 128 ≤ b → length r ≡ 0 → true ≡ stub-string (b ∷ r)
-unfolding stub-string
-one-high b [] g e = sym (rw (le-ltb b 128 g))
-one-high b (c ∷ r) g e = absurd (omega arith)
-
-high-within : (b : ℕ) (r : List ℕ) → 128 ≤ b → (length r ≡ 0 → ⊥) → false ≡ stub-string (b ∷ r)
-unfolding stub-string
-high-within b [] g n = absurd (n refl)
-high-within b (c ∷ r) g n = sym (rw (le-ltb b 128 g))
-
-module _ (l : List ℕ) (i : ℕ) (h : i < length l) where
-  pub stub-low : getD l i 0 < 128 → stub-string (drop (i + 1) l) ≡ stub-string (drop i l)
-  unfolding stub-string
-  stub-low g =
-      let e : i + 1 ≡ suc i = omega arith in
-      rw (drop-cons l i 0 h, lt-ltb (getD l i 0) 128 g, e)
-
-  pub stub-first : (t : Bool) → 128 ≤ getD l i 0 → t ≡ eqb (i + 1) (length l) → t ≡ stub-string (drop i l)
-  stub-first t g e =
-      e
-      ∙ split (eqb (i + 1) (length l))
-      (λ q. q ∙ rw (drop-cons l i 0 h) (one-high (getD l i 0) (drop (suc i) l) g (simp length-drop (omega (arith, eqb-true (i + 1) (length l) q)))))
-      (λ q.
-      q
-      ∙ rw (drop-cons l i 0 h)
-      (high-within (getD l i 0) (drop (suc i) l) g (λ z. let y : i + 1 ≡ length l = omega (arith, length-drop (suc i) l) in eqb-ne q y)))
-
-pub stub-none : (l : List ℕ) (i : ℕ) → length l ≤ i → false ≡ stub-string (drop i l)
-unfolding stub-string
-stub-none l i h = rw (drop-of-length-le l h)

@@ -5,17 +5,18 @@ use mathlib.Core.Bool.{true, false}
 use mathlib.Core.List.{List, [], _∷_, _++_}
 use mathlib.Core.Option.{Option, none, some}
 use Prim.Native.Nat.{ℕ, zero, suc, _+_, _-_, _<_, _≤_}
-use native.Mathlib.Nat.{not-suc-le-zero}
+use native.Mathlib.Nat.{add-zero, not-suc-le-zero}
 use native.Mathlib.Omega.{arith}
 use lib.Dec.{eqb, ltb}
 use lib.ListN.{length, take, drop, length-take, length-drop, drop-of-length-le, take-append-drop}
-use lib.Seq.{drop-nil, drop-drop, getD-drop}
+use lib.Seq.{drop-nil, drop-drop}
 use borrow.Author.Tests.{ltb-false, eqb-true}
 use Rattle.paper.specs.Base.{choose, gather}
-use Rattle.paper.specs.Lookup.{u16-at, u32-at}
+use Rattle.paper.specs.Lookup.{u32-at}
 use Rattle.paper.specs.Layout.{record-shape, is-some, fits, records-after, stream-records}
 use Rattle.paper.specs.Convert.{first-unfit}
 use Rattle.paper.proofs.Tests.{split, clash}
+use Rattle.stream.proofs.Search.{u32-drop}
 use Rattle.layout.specs.Cuts.{record-from, fitting}
 use Rattle.layout.specs.Renewal.{unfit-of, unfit}
 use Rattle.layout.specs.declared.cut.Reached.the-variants.{Upto, Short}
@@ -37,13 +38,6 @@ unfolding records-after
 records-cons [] h = absurd (not-suc-le-zero h)
 records-cons (b ∷ l) h = refl
 
-number-drop : (l : List ℕ) (at : ℕ) → u32-at (drop at l) 0 ≡ u32-at l at
-unfolding u32-at u16-at
-number-drop l at =
-    let z : at + 0 ≡ at = omega arith in
-    let t : at + 3 ≡ (at + 2) + 1 = omega arith in
-    rw (getD-drop at l 0 0, getD-drop at l 1 0, getD-drop at l 2 0, getD-drop at l 3 0, z, t)
-
 pub records-step : (s : List ℕ) (at : ℕ) → at < length s → records-at s at ≡ record-from s at ∷ records-at s ((at + 4) + u32-at s at)
 unfolding records-at record-from
 records-step s at h =
@@ -52,7 +46,7 @@ records-step s at h =
     let d : drop (3 + u) (drop 1 (drop at s)) ≡ drop ((at + 4) + u) s =
     ap (drop (3 + u)) (drop-drop 1 at s) ∙ drop-drop (3 + u) (at + 1) s ∙ ap (λ (m : ℕ). drop m s) j in
     records-cons (drop at s) (simp length-drop (omega arith))
-    ∙ rw (number-drop s at, records-skip (drop 1 (drop at s)) (3 + u), d)
+    ∙ rw (u32-drop s at 0, add-zero at, records-skip (drop 1 (drop at s)) (3 + u), d)
 
 pub records-end : (s : List ℕ) (at : ℕ) → length s ≤ at → records-at s at ≡ []
 unfolding records-at records-after

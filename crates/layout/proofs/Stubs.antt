@@ -9,8 +9,8 @@ use lib.Dec.{ltb}
 use lib.ListN.{length, take, drop, length-drop}
 use lib.Seq.{take-all, take-length, drop-length}
 use borrow.Author.Tests.{le-ltb, ltb-false}
-use Rattle.paper.specs.Lookup.{u32-at}
-use Rattle.paper.specs.Layout.{stub-string, lowered, Cut, short, cut, part, then, counted, a-string, a-stub, float-head}
+use Rattle.paper.specs.Lookup.{u32-at, stub-string}
+use Rattle.paper.specs.Layout.{lowered, Cut, short, cut, part, then, counted, a-string, a-stub, float-head}
 use Rattle.paper.proofs.Tests.{split, clash}
 use Rattle.layout.specs.Lowers.{Lowers}
 use Rattle.layout.proofs.Fit.{done, done-with}

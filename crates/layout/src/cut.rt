@@ -1,11 +1,12 @@
 // The parts of a frame record: each function answers the place after one that starts at `from`, or that it does not fit before `end`.
 // `paper`'s `specs/Layout.antt` says what each part is.
+use stream::walk::is_stub;
 use stream::walk::u16_at;
 use stream::walk::u32_at;
 ghost use mathlib.Core.Path.{_≡_};
 ghost use Prim.Native.Nat.{_+_, _≤_};
 ghost use Rattle.paper.specs.Lookup.{u16-at};
-ghost use Rattle.paper.specs.Layout.{stub-string, part, counted, times, a-string, a-stub, an-expression, hypothesis-tail, a-hypothesis, names-part, hypotheses-part};
+ghost use Rattle.paper.specs.Layout.{part, counted, times, a-string, a-stub, an-expression, hypothesis-tail, a-hypothesis, names-part, hypotheses-part};
 ghost use Rattle.layout.specs.Cuts.{Within, span, Cuts};
 
 /// The bytes of an offset or an end: `address-size` of the definitions.
@@ -38,20 +39,6 @@ pub fn after_counted(bytes: &[u8], from: usize, end: usize, size: usize) -> Reac
     }
     let count = u32_at(bytes, from);
     after_part(bytes, from, end, 4 + size * count)
-}
-
-/// Whether bytes are under 128 but for the last, which is not.
-pub fn is_stub(bytes: &[u8]) -> bool
-    ensures { λ r. ⌜ r ≡ stub-string (now (bytes .entry)) ⌝ }
-{
-    let mut i = 0;
-    while i < bytes.len() {
-        if bytes[i] >= 128 {
-            return i + 1 == bytes.len();
-        }
-        i += 1;
-    }
-    false
 }
 
 /// After a stub string.

@@ -6,9 +6,9 @@ use Prim.Native.Nat.{ℕ}
 use lib.ListN.{length}
 use Rattle.paper.specs.Base.{gather}
 use Rattle.paper.specs.Records.{le, u16}
-use Rattle.paper.specs.Lookup.{u16-at, u32-at}
+use Rattle.paper.specs.Lookup.{u16-at, u32-at, stub-string}
 use Rattle.paper.specs.Answer.{laid}
-use Rattle.paper.specs.Layout.{stub-string, lowered, part, times, counted, an-expression, hypothesis-tail, a-hypothesis, a-stub, names-part, hypotheses-part, back-parts, shape-of, record-shape, fits, records-after, stream-records}
+use Rattle.paper.specs.Layout.{lowered, part, times, counted, an-expression, hypothesis-tail, a-hypothesis, a-stub, names-part, hypotheses-part, back-parts, shape-of, record-shape, fits, records-after, stream-records}
 use Rattle.paper.specs.Convert.{converted-number, converted-place, converted-used, first-unfit, renewed, renewal, convert, convert-exit}
 use Rattle.paper.proofs.Table.{hex, old}
 

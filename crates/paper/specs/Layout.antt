@@ -9,20 +9,11 @@ use lib.Dec.{eqb, ltb}
 use lib.ListN.{length, take, drop}
 use Rattle.paper.specs.Base.{choose, or, codes, gather}
 use Rattle.paper.specs.Records.{le, u16, u32, string, framed}
-use Rattle.paper.specs.Lookup.{u16-at, u32-at}
+use Rattle.paper.specs.Lookup.{u16-at, u32-at, stub-string}
 
 -- the bytes of an offset or an end
 abbrev pub address-size : ℕ
 address-size = 4
-
--- ---- a stub string: bytes under 128 and then one of 128 or more, the last. It is not empty
-abbrev none-left : List ℕ → Bool
-none-left [] = true
-none-left (b ∷ l) = false
-
-unfoldable pub stub-string : List ℕ → Bool
-stub-string [] = false
-stub-string (b ∷ l) = let r = stub-string l in choose (ltb b 128) r (none-left l)
 
 -- the last byte with 128 taken off
 unfoldable pub lowered : List ℕ → List ℕ

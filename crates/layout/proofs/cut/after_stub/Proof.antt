@@ -7,7 +7,7 @@ use Rattle.layout.proofs.cut.after_stub.Statement.{statement}
 use Rattle.layout.proofs.cut.after_stub.Tie as tie
 use Rattle.layout.proofs.cut.after_stub.Reads as reads
 use Rattle.layout.proofs.cut.after_stub.Lts as lts
-use Rattle.layout.proofs.cut.is_stub.Reads as is-stub-reads
+use Rattle.stream.proofs.walk.is_stub.Reads as is-stub-reads
 use Rattle.stream.proofs.walk.u32_at.Reads as u32-at-reads
 
 sub-if1 : tie.Need-sub-if1

@@ -2,13 +2,13 @@ use mathlib.Core.Path.{_≡_, refl, _∙_}
 use Prim.Native.Nat.{_-_}
 use native.Mathlib.Omega.{arith}
 use lib.ListN.{length, drop}
-use Rattle.paper.specs.Layout.{stub-string}
-use Rattle.layout.proofs.Lowered.{stub-first, stub-low, stub-none}
+use Rattle.paper.specs.Lookup.{stub-string}
+use Rattle.stream.proofs.Stubs.{stub-first, stub-low, stub-none}
 use borrow.Author.Needs.{needs}
-use Rattle.layout.proofs.cut.is_stub.Statement.{statement}
-use Rattle.layout.proofs.cut.is_stub.Tie as tie
-use Rattle.layout.proofs.cut.is_stub.Reads as reads
-use Rattle.layout.proofs.cut.is_stub.Lts as lts
+use Rattle.stream.proofs.walk.is_stub.Statement.{statement}
+use Rattle.stream.proofs.walk.is_stub.Tie as tie
+use Rattle.stream.proofs.walk.is_stub.Reads as reads
+use Rattle.stream.proofs.walk.is_stub.Lts as lts
 
 abbrev Inv-loop : tie.InvT-loop
 Inv-loop bytes i₀ i = stub-string (drop i bytes) ≡ stub-string bytes
