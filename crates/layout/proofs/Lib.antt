@@ -8,3 +8,6 @@ pub mod Local
 pub mod Stubs
 pub mod Renewing
 pub mod Converted
+pub mod Takes
+pub mod Formed
+pub mod Written

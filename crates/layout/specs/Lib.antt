@@ -2,3 +2,4 @@ pub mod Cuts
 pub mod Lowers
 pub mod Renewal
 pub mod Converted
+pub mod Regular
