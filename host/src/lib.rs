@@ -144,9 +144,8 @@ pub fn convert(stream: &[u8], out: &mut [u8]) -> Converted {
     let mut words = [u64::MAX; 2];
     // SAFETY: the library reads `stream`, writes `out` within its length, and keeps no pointer; the slices do not overlap, since one
     // of them is borrowed for writing; `words` has the two words it writes.
-    let number = unsafe {
-        janorembe_convert(stream.as_ptr(), stream.len(), out.as_mut_ptr(), out.len(), words.as_mut_ptr())
-    };
+    let number =
+        unsafe { janorembe_convert(stream.as_ptr(), stream.len(), out.as_mut_ptr(), out.len(), words.as_mut_ptr()) };
     Converted { number, place: words[0], used: words[1] }
 }
 
