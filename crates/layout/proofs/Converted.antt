@@ -16,7 +16,7 @@ use Rattle.paper.specs.Lookup.{u16-at, u32-at}
 use Rattle.paper.specs.Layout.{lowered, finished, float-shape, shape-of, record-shape, is-some, fits, records-after, stream-records}
 use Rattle.paper.specs.Convert.{first-unfit, renewed, renewal}
 use Rattle.paper.proofs.Tests.{split, eqb-ne}
-use Rattle.paper.proofs.Alls.{All, all-none, all-more}
+use Rattle.paper.proofs.Alls.{All, all-none, all-more, all-map}
 use Rattle.layout.specs.Renewal.{AllFit}
 use Rattle.layout.specs.Converted.{NoStub, Converting, Unchanged, Conversion, OneConversion}
 use Rattle.layout.proofs.Local.{u32-front}
@@ -111,11 +111,6 @@ records-joined [] all-none = refl
 records-joined (r ∷ l) (all-more z a) = joined r (gather (λ x. x) l) z ∙ ap (λ x. r ∷ x) (records-joined l a)
 
 -- ---- a stream
-renewed-one : (l : List (List ℕ)) → gather renewed l ≡ gather (λ x. x) (map renewed l)
-unfolding gather
-renewed-one [] = refl
-renewed-one (r ∷ l) = ap (λ x. renewed r ++ x) (renewed-one l)
-
 unfit-none : (l : List (List ℕ)) (o : ℕ) → first-unfit l o ≡ none → All (λ r. fits r ≡ true) l
 unfit-none [] o e = all-none
 unfit-none (r ∷ l) o e = all-more (unfit-first r l o e) (unfit-none l (o + length r) (unfit-rest r l o e))
@@ -138,10 +133,21 @@ unfolding gather
 again all-none = refl
 again (all-more {x = r} e a) = rw (renewed-other (renewed r) (renewed-plain r e), again a)
 
+joined-map : {A : Type 0} (g : A → List ℕ) (l : List A) → gather g l ≡ gather (λ x. x) (map g l)
+unfolding gather
+joined-map g [] = refl
+joined-map g (x ∷ l) = ap (λ r. g x ++ r) (joined-map g l)
+
 renewal-records : (s : List ℕ) → AllFit s → stream-records (renewal s) ≡ map renewed (stream-records s)
 unfolding renewal
 renewal-records s e =
-    rw (renewed-one (stream-records s)) (records-joined _ (map-all renewed renewed-sized (unfit-none (stream-records s) 0 e)))
+    rw (joined-map renewed (stream-records s)) (records-joined _ (map-all renewed renewed-sized (unfit-none (stream-records s) 0 e)))
+
+-- records that fit, one after the other
+pub all-fit-joined : {A : Type 0} (g : A → List ℕ) {l : List A} → All (λ x. fits (g x) ≡ true) l → AllFit (gather g l)
+all-fit-joined g {l} a =
+    let b : All (λ r. fits r ≡ true) (map g l) = map-all g (λ x h. h) a in
+    rw (joined-map g l, records-joined (map g l) (all-map (λ r h. fits-sized r h) b)) (none-unfit (map g l) 0 b)
 
 pub converting : Converting
 unfolding renewal

@@ -11,3 +11,5 @@ pub mod Converted
 pub mod Takes
 pub mod Formed
 pub mod Written
+pub mod Even
+pub mod WrittenFits

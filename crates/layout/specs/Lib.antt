@@ -3,3 +3,4 @@ pub mod Lowers
 pub mod Renewal
 pub mod Converted
 pub mod Regular
+pub mod Written

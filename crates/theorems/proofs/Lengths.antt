@@ -147,7 +147,7 @@ see-grows : (l : List (List ℕ)) (n : List ℕ) → length l ≤ length (see l 
 see-grows l n =
     split (member n l) (λ e. rw e (omega arith)) (λ e. rw e (omega (arith, length-append l (n ∷ []))))
 
-sights-grow : (m l : List (List ℕ)) → length l ≤ length (sights m l)
+pub sights-grow : (m l : List (List ℕ)) → length l ≤ length (sights m l)
 unfolding sights
 sights-grow [] l = omega arith
 sights-grow (n ∷ m) l = omega (arith, see-grows l n, sights-grow m (see l n))
