@@ -15,6 +15,7 @@ pub mod Measures
 pub mod Conversions
 pub mod Marked
 pub mod Shorts
+pub mod Segments
 pub mod Searches
 pub mod Sums
 pub mod Gather

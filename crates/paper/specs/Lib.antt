@@ -4,6 +4,7 @@ pub mod Tokens
 pub mod Comments
 pub mod Statements
 pub mod Reader
+pub mod Segments
 pub mod Names
 pub mod State
 pub mod Checks

@@ -62,7 +62,7 @@ pub record Passed (t : List ℕ) (w : ℕ) (l : List Statement) : Type 0 where
   pub reads : items (tokens t) (length t) ≡ given read
   pub statements : l ≡ ends read []
 
-ended-given : (o : Outcome (List Item)) {l : List Statement} → with-ends o ≡ given l
+pub ended-given : (o : Outcome (List Item)) {l : List Statement} → with-ends o ≡ given l
     → (i : List Item) × (o ≡ given i) × (l ≡ ends i [])
 ended-given (refused r) e = not-given e
 ended-given (given i) {l} e = (i, refl, cc)

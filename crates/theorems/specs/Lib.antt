@@ -5,3 +5,8 @@ pub mod Examples
 pub mod Unique
 pub mod Measured
 pub mod Restricted
+pub mod Moved
+pub mod Joined
+pub mod JoinedExamples
+pub mod Later
+pub mod LaterExamples
