@@ -69,7 +69,8 @@ uint32_t janorembe_write(const uint8_t *text, size_t text_length,
 /* Looks a label up in a frame stream. The whole stream is walked first. Returns a number:
  *
  *   0   found; the place is the offset of the first record with this label
- *  10   a record that is not well framed; the offset of the first one
+ *  10   a record that is not well framed; the offset of the first one. One of kind 1, as streams had them before kind 4,
+ *       needs its stub string
  *  11   no such label; 0
  *
  * frames, frames_length  a frame stream: the used bytes that the writer wrote, not the whole buffer; only read
@@ -81,13 +82,29 @@ uint32_t janorembe_lookup(const uint8_t *frames, size_t frames_length,
                           const uint8_t *label, size_t label_length,
                           uint64_t *place);
 
+/* Turns the kind 1 records of a frame stream, whose variable has 128 added to its last byte, into kind 4 with the plain variable.
+ * All other records stay as they are, so the stream keeps its length. Returns a number:
+ *
+ *   0   done; the place is 0
+ *   8   out is too short; the bytes needed
+ *  10   a record that does not fit its layout to the last byte; the offset of the first one
+ *
+ * stream, stream_length  a frame stream; only read
+ * out, out_length        if the number is 0, its first answer[1] bytes are the new stream; nothing else of it is changed
+ * answer                 takes the place, and the bytes used; 0 if the number is not 0
+ *
+ * No pointer may be null; the buffers and answer must not overlap, and answer is aligned to 8 bytes. */
+uint32_t janorembe_convert(const uint8_t *stream, size_t stream_length,
+                           uint8_t *out, size_t out_length,
+                           uint64_t answer[2]);
+
 /* What a record of a frame stream holds. Returns 0, or 10 if no well framed record stands at this place.
  *
  * frames, frames_length  a frame stream; only read
  * place                  where the record starts, as look-up answers it; any number
- * view                   takes six numbers: the kind (1, 2 or 3); where the label starts, from the record's first byte, and its
+ * view                   takes six numbers: the kind (1 to 4); where the label starts, from the record's first byte, and its
  *                        length; V, M and the hypothesis count. UINT64_MAX stands for a number that the record does not
- *                        hold, as V in a record of kind 1; the place and the length of a label that is not there are 0
+ *                        hold, as V in a record of kind 4; the place and the length of a label that is not there are 0
  *
  * No pointer may be null; view must not overlap frames, and is aligned to 8 bytes. */
 uint32_t janorembe_view(const uint8_t *frames, size_t frames_length,

@@ -6,7 +6,7 @@ import types
 
 MODEL = pathlib.Path(__file__).resolve().parent / "model"
 # the landed requests that change what a text is answered
-LANDED = ["a2_comments", "a6_lines", "a8_short_frames"]
+LANDED = ["a2_comments", "a6_lines", "a8_short_frames", "a10_kind4"]
 # `check` answers number, place and streams; the line of a number and place is asked of `line_of`
 LEFT_OUT = [("a6_lines", "check")]
 
@@ -20,8 +20,19 @@ def load():
     for request in map(importlib.import_module, LANDED):
         taken = [name for name, thing in vars(request).items() if base.get(name) is thing]
         vars(request).update({name: names[name] for name in taken}, model=types.SimpleNamespace(**names))
+        check = names["check"]
         names.update((name, thing) for name, thing in vars(request).items() if (request.__name__, name) not in LEFT_OUT)
+        if request.__name__ == "a10_kind4":
+            names["check"] = in_kind_4(check, request.converted)
     return types.SimpleNamespace(**names)
+
+
+def in_kind_4(check, converted):
+    """A10's own `check` knows no setting of A8: its records are those of the requests before it, converted, which are as long."""
+    def checked(*lent):
+        number, place, frames, diags = check(*lent)
+        return number, place, converted(frames), diags
+    return checked
 
 
 def texts(paths):

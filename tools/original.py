@@ -42,12 +42,24 @@ def without_nested_c(diags):
     return b"".join(d for d in records if d[4:6] != b"\x0d\x00")
 
 
+def in_kind_4(frames):
+    """A frame stream with kind 4 for kind 1, the original's: 128 taken off the last byte of the stub string, which ends the record."""
+    out, at = bytearray(frames), 0
+    while at < len(out):
+        after = at + 4 + int.from_bytes(out[at:at + 4], "little")
+        if out[at + 4:at + 6] == b"\1\0":
+            out[at + 4] = 4
+            out[after - 1] -= 128
+        at = after
+    return bytes(out)
+
+
 def asked(program, folder, text):
-    """The original's two streams for the text in a file, or nothing if it lies outside the domain of equality."""
+    """The original's two streams for the text in a file, its kind 1 records as kind 4; or nothing if it lies outside the domain of equality."""
     frames, diags = folder / "original-frames", folder / "original-diagnostics"
     done = subprocess.run([program, text, frames, diags], capture_output=True, text=True)
     if done.returncode not in (0, 2):
         sys.exit(f"the original ended with {done.returncode} on the text {pathlib.Path(text).read_bytes().hex()}")
     if done.stderr.split("\n")[-2:] != ["domain yes", ""]:
         return None
-    return frames.read_bytes(), diags.read_bytes()
+    return in_kind_4(frames.read_bytes()), diags.read_bytes()

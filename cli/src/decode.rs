@@ -1,6 +1,8 @@
 //! Records to values. Every read is checked, and a record must be used up to its last byte; `docs/FORMATS.md` has the layouts.
 
-const FLOAT: u16 = 1;
+const FLOAT: u16 = 4;
+/// The `$f` of streams from before kind 4: 128 is added to the last byte of its variable.
+const STUB: u16 = 1;
 const PROVABLE: u16 = 3;
 const NO_END: u32 = u32::MAX;
 const DIAGNOSTIC: u32 = 14;
@@ -126,18 +128,24 @@ fn record_at(stream: &[u8], at: usize) -> Option<(u16, Cursor<'_>, usize)> {
 pub fn frame_at(stream: &[u8], at: usize) -> Option<(Frame<'_>, usize)> {
     let (kind, mut cursor, next) = record_at(stream, at)?;
     let frame = match kind {
-        FLOAT => Frame::Float(float(&mut cursor)?),
+        FLOAT | STUB => Frame::Float(float(&mut cursor, kind == STUB)?),
         2 | PROVABLE => Frame::Assertion(assertion(&mut cursor, kind == PROVABLE)?),
         _ => return None,
     };
     cursor.end((frame, next))
 }
 
-fn float<'a>(cursor: &mut Cursor<'a>) -> Option<Float<'a>> {
+fn float<'a>(cursor: &mut Cursor<'a>, stub: bool) -> Option<Float<'a>> {
     let (start, end) = (cursor.u32()?, cursor.u32()?);
-    let (label, typecode, stub) = (cursor.string()?, cursor.string()?, cursor.string()?);
-    let [variable] = &constants(stub)[..] else { return None };
-    Some(Float { start, end: (end != NO_END).then_some(end), label, typecode, variable: variable.clone() })
+    let (label, typecode, bytes) = (cursor.string()?, cursor.string()?, cursor.string()?);
+    let variable = if stub { unstubbed(bytes)? } else { bytes.to_vec() };
+    Some(Float { start, end: (end != NO_END).then_some(end), label, typecode, variable })
+}
+
+/// A stub string without its 128: it has it on its last byte and on no other.
+fn unstubbed(stub: &[u8]) -> Option<Vec<u8>> {
+    let (last, front) = stub.split_last()?;
+    (*last >= 128 && front.iter().all(|&byte| byte < 128)).then(|| [front, &[last - 128]].concat())
 }
 
 fn assertion<'a>(cursor: &mut Cursor<'a>, provable: bool) -> Option<Assertion<'a>> {

@@ -147,7 +147,8 @@ much that is, so the number is for those who call the core themselves.",
     },
     Rule {
         rule: "Look-up walks a whole frame stream first. A record is badly framed if fewer than 4 bytes are left for its length, the
-length is under 2 or more than is left, its kind is not 1, 2 or 3, or its label does not lie inside it.",
+length is under 2 or more than is left, its kind is not 1 to 4, its label does not lie inside it, or it is of kind 1 and
+has no stub string.",
         wrong: "a stream of 3 bytes",
         mended: "the whole stream, as `janorembe streams` writes it",
     },

@@ -4,7 +4,7 @@
 mod common;
 
 use common::host::all_vectors;
-use janorembe_cli::decode::{self, Assertion, Expression, Frame, Hypothesis};
+use janorembe_cli::decode::{self, Assertion, Expression, Float, Frame, Hypothesis};
 use janorembe_cli::lend::{streams, Answer};
 
 const DATABASES: &str = "/usr/share/metamath/databases";
@@ -51,15 +51,28 @@ fn assertion(a: &Assertion) -> Vec<u8> {
     [head.concat(), counted.concat(), a.rows.to_vec()].concat()
 }
 
+fn framed(kind: usize, payload: &[u8]) -> Vec<u8> {
+    [u32(payload.len() as u32 + 2), u16(kind), payload.to_vec()].concat()
+}
+
+fn float(f: &Float, variable: &[u8]) -> Vec<u8> {
+    let places = [u32(f.start), u32(f.end.unwrap_or(u32::MAX))].concat();
+    [places, string(f.label), string(f.typecode), string(variable)].concat()
+}
+
 fn record(frame: &Frame) -> Vec<u8> {
-    let (kind, payload) = match frame {
-        Frame::Float(f) => {
-            let places = [u32(f.start), u32(f.end.unwrap_or(u32::MAX))].concat();
-            (1, [places, string(f.label), string(f.typecode), string(&raised(&f.variable))].concat())
-        }
-        Frame::Assertion(a) => (if a.provable { 3 } else { 2 }, assertion(a)),
-    };
-    [u32(payload.len() as u32 + 2), u16(kind), payload].concat()
+    match frame {
+        Frame::Float(f) => framed(4, &float(f, &f.variable)),
+        Frame::Assertion(a) => framed(if a.provable { 3 } else { 2 }, &assertion(a)),
+    }
+}
+
+/// Kind 1, as streams had it before kind 4, decodes to the same frame.
+fn older(frame: &Frame) {
+    let Frame::Float(f) = frame else { return };
+    let stub = framed(1, &float(f, &raised(&f.variable)));
+    assert_eq!(decode::frame_at(&stub, 0).as_ref().map(|(old, _)| old), Some(frame));
+    assert!(decode::frame_at(&framed(1, &float(f, &f.variable)), 0).is_none());
 }
 
 /// The rows of the mandatory variables, over those alone.
@@ -98,6 +111,7 @@ fn same(name: &str, text: &[u8]) -> usize {
         let (at, frame) = frame.unwrap_or_else(|at| panic!("{name}: the record at {at} does not decode"));
         assert_eq!(at, written.len(), "{name}");
         written.extend(record(&frame));
+        older(&frame);
         cut.extend(short_record(frame));
         count += 1;
     }

@@ -3,7 +3,7 @@
 //! One case a line: `NAME OPERATION KEY=VALUE ... = KEY=VALUE ...`. `vectors/README.md` says the keys. A case is understood
 //! if its operation and all its keys are; every buffer holds something before the call.
 
-use crate::{lookup, measure, write, Answer};
+use crate::{convert, lookup, measure, write, Answer};
 use std::collections::BTreeMap;
 
 type Fields = BTreeMap<String, String>;
@@ -180,12 +180,24 @@ impl Case {
         self.is(&[("number", found.number.to_string()), ("place", found.place.to_string())], true)
     }
 
+    fn agrees_convert(&self) -> Result<bool, String> {
+        let mut lent = self.lent();
+        let (stream, mut out) = (lent.bytes("stream")?, Buffer::new(lent.number("out")?));
+        lent.end()?;
+        let a = convert(&stream, &mut out.bytes);
+        let used = out.used(a.used);
+        let rest = used.is_some() && (a.number == 0 || a.used == 0);
+        let out = to_hex(used.unwrap_or_default());
+        self.is(&[("number", a.number.to_string()), ("place", a.place.to_string()), ("out", out)], rest)
+    }
+
     /// Whether the library does as the case says; an error if the case is not understood.
     pub fn agrees(&self) -> Result<bool, String> {
         match self.operation.as_str() {
             "write" => self.agrees_write(),
             "measure" => self.agrees_measure(),
             "lookup" => self.agrees_lookup(),
+            "convert" => self.agrees_convert(),
             _ => Err(self.strange()),
         }
     }

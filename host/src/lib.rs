@@ -28,6 +28,14 @@ pub struct Found {
     pub place: u64,
 }
 
+/// What the converter answers: document 02's number and place, and the bytes used.
+#[derive(Clone, Copy, Debug, PartialEq, Eq)]
+pub struct Converted {
+    pub number: u32,
+    pub place: u64,
+    pub used: u64,
+}
+
 /// What a record of a frame stream holds; a number that the record does not hold is none.
 #[derive(Clone, Copy, Debug, PartialEq, Eq)]
 pub struct View<'a> {
@@ -73,6 +81,13 @@ extern "C" {
         label: *const u8,
         label_length: usize,
         place: *mut u64,
+    ) -> u32;
+    fn janorembe_convert(
+        stream: *const u8,
+        stream_length: usize,
+        out: *mut u8,
+        out_length: usize,
+        answer: *mut u64,
     ) -> u32;
     fn janorembe_view(frames: *const u8, frames_length: usize, place: u64, view: *mut u64) -> u32;
 }
@@ -123,6 +138,16 @@ pub fn lookup(frames: &[u8], label: &[u8]) -> Found {
     // SAFETY: the library reads the two slices within their lengths, writes `place`, and keeps no pointer.
     let number = unsafe { janorembe_lookup(frames.as_ptr(), frames.len(), label.as_ptr(), label.len(), &mut place) };
     Found { number, place }
+}
+
+/// A frame stream with its kind 1 records as kind 4 and all others as they are goes to the front of `out` if the number is 0.
+pub fn convert(stream: &[u8], out: &mut [u8]) -> Converted {
+    let mut words = [u64::MAX; 2];
+    // SAFETY: the library reads `stream`, writes `out` within its length, and keeps no pointer; the slices do not overlap, since one
+    // of them is borrowed for writing; `words` has the two words it writes.
+    let number =
+        unsafe { janorembe_convert(stream.as_ptr(), stream.len(), out.as_mut_ptr(), out.len(), words.as_mut_ptr()) };
+    Converted { number, place: words[0], used: words[1] }
 }
 
 /// The record at a place of a frame stream, if a well framed one stands there.

@@ -41,7 +41,7 @@ fn statements_at_the_far_end() {
     let mut text = vec![b'\n'; start];
     text.extend_from_slice(end);
     let r = run("far end", &text, 16 * 19, 100, 100);
-    let frame = record(1, &[u32(start + 16), vec![255; 4], string(b"f"), string(b"c"), string(&[b'x' + 128])].concat());
+    let frame = record(4, &[u32(start + 16), vec![255; 4], string(b"f"), string(b"c"), string(b"x")].concat());
     let diag = record(8, &[u32(start + 28), u32(1), u32(0)].concat());
     assert_eq!((r.answer.number, r.frames, r.diags), (0, frame, diag));
     assert_eq!(refusal("far end", &text[..MOST_BYTES - 3], 16 * 18, 0, 0), (6, MOST_BYTES as u64 - 3));

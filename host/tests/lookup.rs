@@ -2,7 +2,7 @@
 
 mod common;
 
-use common::{all_vectors, damaged, look_ups, number_at, Random};
+use common::{all_vectors, damaged, look_ups, number_at, stub_after_typecode, Random};
 use janorembe::lookup;
 
 fn found(stream: &[u8], label: &[u8]) -> (u32, u64) {
@@ -17,8 +17,9 @@ fn framed(stream: &[u8], at: usize) -> Option<(&[u8], usize)> {
     if record.len() < 2 {
         return None;
     }
-    let front = match number_at(record, 0, 2) {
-        1 => 10,
+    let kind = number_at(record, 0, 2);
+    let front = match kind {
+        1 | 4 => 10,
         2 | 3 => 6,
         _ => return None,
     };
@@ -27,6 +28,9 @@ fn framed(stream: &[u8], at: usize) -> Option<(&[u8], usize)> {
         return None;
     }
     let label = after_front[4..].get(..number_at(after_front, 0, 4))?;
+    if kind == 1 && !stub_after_typecode(&after_front[4 + label.len()..]) {
+        return None;
+    }
     Some((label, at + 4 + record.len()))
 }
 

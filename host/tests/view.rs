@@ -2,7 +2,7 @@
 
 mod common;
 
-use common::{all_vectors, damaged, number_at, Random};
+use common::{all_vectors, damaged, number_at, stub_after_typecode, Random};
 use janorembe::{lookup, view, View};
 
 /// The strings of `count` that stand one after the other, and the bytes after them.
@@ -20,13 +20,16 @@ fn expected(stream: &[u8], at: usize) -> Option<View<'_>> {
     let record = rest.get(..4).and(rest.get(4..))?.get(..number_at(rest, 0, 4))?;
     let kind = record.get(..2).map(|k| number_at(k, 0, 2))?;
     let strings = match kind {
-        1 => record.get(10..)?,
+        1 | 4 => record.get(10..)?,
         2 | 3 => record.get(6..)?,
         _ => return None,
     };
     let counts = after_strings(strings, 1)?;
     let label = &strings[4..strings.len() - counts.len()];
-    let full = kind != 1 && counts.len() >= 4;
+    if kind == 1 && !stub_after_typecode(counts) {
+        return None;
+    }
+    let full = kind != 1 && kind != 4 && counts.len() >= 4;
     let count = |from: usize| full.then(|| number_at(counts, from, 2) as u64);
     let variables = count(0);
     let hypotheses = variables

@@ -5,12 +5,15 @@ use mathlib.Core.List.{List}
 use Prim.Native.Nat.{ℕ}
 use Rattle.paper.specs.Answer.{measured-number, number}
 use Rattle.paper.specs.Lookup.{found-number, found-place}
+use Rattle.paper.specs.Convert.{converted-number}
 use Rattle.paper.specs.declared.Setting.{Setting}
 use Rattle.paper.specs.declared.Measured.{Measured}
 use Rattle.paper.specs.declared.Answer.{Answer}
 use Rattle.paper.specs.declared.Found.{Found}
+use Rattle.paper.specs.declared.Converted.{Converted}
+use Rattle.layout.specs.Renewal.{Converts}
 use Rattle.catalogue.specs.Promise.{Measures, Writes, Looks}
-use Rattle.capi.specs.Promise.{setting-of, measured-words, written-words, Gauged, Written, Looked}
+use Rattle.capi.specs.Promise.{setting-of, measured-words, written-words, converted-words, Gauged, Written, Looked, Changed}
 
 -- ---- the measure
 pub gauged : {u : ℕ} {c : Setting} {t w w′ a′ : List ℕ} {m : Measured} {n : ℕ} → Measures c t w w′ m → c ≡ setting-of u → (n ≡ measured-number m) × (a′ ≡ measured-words m)
@@ -39,3 +42,12 @@ written {u} {c} {t} {w} {w′} {f} {f′} {d} {d′} {a′} {r} h q e =
 -- ---- look-up
 pub looked : {f l : List ℕ} {r : Found} {p n : ℕ} → Looks f l r → p ≡ found-place r → n ≡ found-number r → Looked f l p n
 looked h hp hn = record { told = hn ∙ ap found-number h; place = hp ∙ ap found-place h }
+
+-- ---- the converter
+pub changed : {s l m a′ : List ℕ} {r : Converted} {n : ℕ} → Converts s l m r → (n ≡ converted-number r) × (a′ ≡ converted-words r) → Changed s l m a′ n
+changed h e =
+    record {
+      told = e .0 ∙ ap converted-number (h .answer);
+      answer = e .1 ∙ ap converted-words (h .answer);
+      exit = h .exit;
+    }

@@ -1,7 +1,7 @@
 -- Uniqueness, proved: both results are the same function of the inputs, field by field.
 -- Assumes nothing.
 use mathlib.Core.Path.{sym, _∙_}
-use Rattle.capi.specs.Unique.{UniqueMeasure, Unique, UniqueLook}
+use Rattle.capi.specs.Unique.{UniqueMeasure, Unique, UniqueLook, UniqueChange}
 
 pub unique-measure : UniqueMeasure
 unique-measure u t w r s a b =
@@ -29,4 +29,13 @@ unique-look f l r s a b =
     record {
       number = (a .told ∙ sym (b .told)) i;
       place = (a .place ∙ sym (b .place)) i;
+    }
+
+pub unique-change : UniqueChange
+unique-change s l r q a b =
+    λ i.
+    record {
+      number = (a .told ∙ sym (b .told)) i;
+      answer = (a .answer ∙ sym (b .answer)) i;
+      buffer = (a .exit ∙ sym (b .exit)) i;
     }

@@ -1,4 +1,4 @@
--- What measure, writer and look-up promise to a caller in another language, for all inputs: the number that comes back,
+-- What measure, writer, look-up and converter promise to a caller in another language, for all inputs: the number that comes back,
 -- and every lent buffer at exit. `a′` is `answer` at exit, and `p′` is `place`; the other names are those of `catalogue`.
 use mathlib.Core.Path.{_≡_}
 use mathlib.Core.List.{List, [], _∷_}
@@ -8,10 +8,12 @@ use lib.ListN.{length}
 use Rattle.paper.specs.Base.{choose}
 use Rattle.paper.specs.Answer.{measured-number, measured-place, measured-line, frames-needed, diags-needed, measured-count, measure, number, place, line, frames-used, diags-used, count, answer, frames-exit, diags-exit, work-exit}
 use Rattle.paper.specs.Lookup.{look-up, found-number, found-place}
+use Rattle.paper.specs.Convert.{converted-number, converted-place, converted-used, convert, convert-exit}
 use Rattle.paper.specs.declared.Setting.{Setting}
 use Rattle.paper.specs.declared.Setting.the-variants.{Short, Full}
 use Rattle.paper.specs.declared.Measured.{Measured}
 use Rattle.paper.specs.declared.Answer.{Answer}
+use Rattle.paper.specs.declared.Converted.{Converted}
 
 -- the words of `answer`: place, segment, line, bytes of frames, of diagnostics and of verdicts, number of frames, and one more.
 -- There are no segments and verdicts yet: these and the last are 0
@@ -44,3 +46,13 @@ pub record Written (u : ℕ) (t w w′ f f′ d d′ a′ : List ℕ) (n : ℕ) 
 pub record Looked (f l : List ℕ) (p′ n : ℕ) : Type 0 where
   pub told : n ≡ found-number (look-up f l)
   pub place : p′ ≡ found-place (look-up f l)
+
+-- place and used bytes
+abbrev pub converted-words : Converted → List ℕ
+converted-words r = converted-place r ∷ converted-used r ∷ []
+
+-- `l` is the buffer at entry, `m` at exit
+pub record Changed (s l m a′ : List ℕ) (n : ℕ) : Type 0 where
+  pub told : n ≡ converted-number (convert s (length l))
+  pub answer : a′ ≡ converted-words (convert s (length l))
+  pub exit : m ≡ convert-exit s l

@@ -3,7 +3,7 @@
 use mathlib.Core.Path.{_≡_}
 use mathlib.Core.List.{List}
 use Prim.Native.Nat.{ℕ}
-use Rattle.capi.specs.Promise.{Gauged, Written, Looked}
+use Rattle.capi.specs.Promise.{Gauged, Written, Looked, Changed}
 
 -- ---- the measure, under the setting of number u, for the text t with work area w at entry
 pub record Gauge : Type 0 where
@@ -39,3 +39,16 @@ pub record Shown : Type 0 where
 
 abbrev pub UniqueLook : Type 0
 UniqueLook = (f l : List ℕ) (r s : Shown) → Looked f l (r .place) (r .number) → Looked f l (s .place) (s .number) → r ≡ s
+
+-- ---- the converter, for the stream s with buffer l at entry
+pub record Change : Type 0 where
+  pub number : ℕ
+  pub answer : List ℕ
+  pub buffer : List ℕ
+
+abbrev pub UniqueChange : Type 0
+UniqueChange =
+    (s l : List ℕ) (r q : Change)
+    → Changed s l (r .buffer) (r .answer) (r .number)
+    → Changed s l (q .buffer) (q .answer) (q .number)
+    → r ≡ q

@@ -1,11 +1,12 @@
-// Measure, writer and look-up for programs in other languages: document 01's numbers in place of enums.
+// Measure, writer, look-up and converter for programs in other languages: document 01's numbers in place of enums.
 // `include/janorembe.h` declares them; what they promise is in `specs/Promise.antt`. Nothing is asked of a caller.
 use crate::numbers::lookup_number;
 use crate::numbers::lookup_place;
 use crate::numbers::setting_of;
+use crate::numbers::tell_converted;
 use crate::numbers::tell_measured;
 use crate::numbers::tell_written;
-ghost use Rattle.capi.specs.Promise.{Gauged, Written, Looked};
+ghost use Rattle.capi.specs.Promise.{Gauged, Written, Looked, Changed};
 
 pub mod numbers;
 pub mod view;
@@ -50,4 +51,13 @@ pub extern "C" fn janorembe_lookup(frames: &[u8], label: &[u8], place: &mut u64)
     let found = catalogue::lookup(frames, label);
     *place = lookup_place(found);
     lookup_number(found)
+}
+
+/// The number of `catalogue::convert`; place and used bytes go into `answer`.
+#[no_mangle]
+pub extern "C" fn janorembe_convert(stream: &[u8], out: &mut [u8], answer: &mut [u64; 2]) -> u32
+    ensures { λ r. ⌜ Changed (now (stream .entry)) (now (out .entry)) (now (out .exit)) (now (answer .exit)) r ⌝ }
+{
+    let converted = catalogue::convert(stream, out);
+    tell_converted(converted, answer)
 }

@@ -1,6 +1,7 @@
 // The number and the words of an answer, as document 01 has them for each of its cases.
-// `paper`'s `specs/Answer.antt` and `specs/Lookup.antt` give them as definitions.
+// `paper`'s `specs/Answer.antt`, `specs/Lookup.antt` and `specs/Convert.antt` give them as definitions.
 use paper::Answer;
+use paper::Converted;
 use paper::Found;
 use paper::Measured;
 use paper::Refusal;
@@ -8,7 +9,8 @@ use paper::Setting;
 ghost use mathlib.Core.Path.{_≡_};
 ghost use Rattle.paper.specs.Answer.{refusal-number, refusal-place, measured-number, number};
 ghost use Rattle.paper.specs.Lookup.{found-number, found-place};
-ghost use Rattle.capi.specs.Promise.{setting-of, eight, measured-words, written-words};
+ghost use Rattle.paper.specs.Convert.{converted-number};
+ghost use Rattle.capi.specs.Promise.{converted-words, setting-of, eight, measured-words, written-words};
 
 /// The setting of a number: 0 for short frames, any other for full ones.
 pub fn setting_of(full: u32) -> Setting
@@ -105,5 +107,25 @@ pub fn lookup_place(found: Found) -> u64
         Found::At(at) => at,
         Found::Malformed(at) => at,
         Found::Missing => 0,
+    }
+}
+
+/// The number of what the converter answers; its words go into `answer`.
+pub fn tell_converted(converted: Converted, answer: &mut [u64; 2]) -> u32
+    ensures { λ r. ⌜ (r ≡ converted-number converted) × (now (answer .exit) ≡ converted-words converted) ⌝ }
+{
+    match converted {
+        Converted::Renewed(used) => {
+            *answer = [0, used];
+            0
+        }
+        Converted::Unfit(at) => {
+            *answer = [at, 0];
+            10
+        }
+        Converted::NoRoom(needed) => {
+            *answer = [needed, 0];
+            8
+        }
     }
 }

@@ -3,10 +3,12 @@
 use crate::streams::answer_read;
 use crate::streams::measure_read;
 use paper::Answer;
+use paper::Converted;
 use paper::Found;
 use paper::Measured;
 use paper::Reading;
 use paper::Setting;
+ghost use Rattle.layout.specs.Renewal.{Converts};
 ghost use Rattle.catalogue.specs.Promise.{Measures, Writes, Looks};
 
 pub mod streams;
@@ -52,4 +54,12 @@ pub fn lookup(frames: &[u8], label: &[u8]) -> Found
     ensures { λ r. ⌜ Looks (now (frames .entry)) (now (label .entry)) r ⌝ }
 {
     stream::walk::lookup(frames, label)
+}
+
+/// A frame stream with its kind 1 records as kind 4 and all others as they are; or the first record that does not fit its
+/// layout, or the bytes needed, and nothing written.
+pub fn convert(stream: &[u8], out: &mut [u8]) -> Converted
+    ensures { λ r. ⌜ Converts (now (stream .entry)) (now (out .entry)) (now (out .exit)) r ⌝ }
+{
+    layout::convert::convert(stream, out)
 }

@@ -5,7 +5,7 @@ use mathlib.Core.Bool.{true}
 use mathlib.Core.List.{List}
 use Prim.Native.Nat.{ℕ, _+_, _-_, _*_, _<_, _≤_}
 use native.Mathlib.Omega.{arith}
-use lib.ListN.{length, getD, drop, length-take, length-drop}
+use lib.ListN.{length, drop, length-take, length-drop}
 use Rattle.paper.specs.Statements.{labelled, Statement}
 use Rattle.paper.specs.Checks.{token}
 use Rattle.paper.specs.Variables.{member}
@@ -13,7 +13,6 @@ use Rattle.paper.specs.Frames.{stub}
 use Rattle.paper.specs.Records.{frame-record}
 use Rattle.area.specs.Cells.{statement-cell, name-cell, math-cell, word}
 use Rattle.stream.specs.Wrote.{Wrote}
-use Rattle.stream.proofs.Raised.{low-last}
 use Rattle.stream.proofs.Wrote.{wrote-as}
 use Rattle.reader.specs.Rows.{stmt, before}
 use Rattle.facts.specs.Facts.{Facts, Shaped}
@@ -21,7 +20,7 @@ use Rattle.nameck.specs.Atoms.{atoms, atom-of}
 use Rattle.nameck.specs.Named.{Named}
 use Rattle.nameck.proofs.Atoms.{label-in, token-in, atom-below, name-of-atom}
 use Rattle.nameck.proofs.Kept.{math-row}
-use Rattle.forms.specs.Words.{name-bytes, atom-at, NameWords, Low}
+use Rattle.forms.specs.Words.{name-bytes, atom-at, NameWords}
 use Rattle.frames.specs.Stub.{OfFloat, CanStub, stub-of, Stubs}
 
 -- ---- a word that is the atom of a name
@@ -69,7 +68,6 @@ pub record FloatWords (t w : List ℕ) (n row : ℕ) (s : Statement) : Type 0 wh
   pub label : Spelt t w n (word w (statement-cell row 2)) (s .label)
   pub typecode : Spelt t w n (atom-at w n row 0) (token s 0 .bytes)
   pub variable : Spelt t w n (atom-at w n row 1) (token s 1 .bytes)
-  pub low : Low (token s 1 .bytes)
 
 pub float-words : {t w : List ℕ} {n row : ℕ} {l : List Statement} → OfFloat t w n l row → FloatWords t w n row (stmt l row)
 unfolding atom-at
@@ -84,7 +82,6 @@ float-words {t} {w} {n} {row} {l} h =
       label = spelt (h .named) (h .facts) (h .small) (label-in l row (h .here) bears) (h .named .label row (h .here) bears);
       typecode = spelt (h .named) (h .facts) (h .small) (token-in l row 0 (h .here) (omega (arith, two))) (ap (λ f. word w (math-cell n (f + 0))) first ∙ h .named .math row 0 (h .here) (omega (arith, two)));
       variable = spelt (h .named) (h .facts) (h .small) (token-in l row 1 (h .here) (omega (arith, two))) (ap (λ f. word w (math-cell n (f + 1))) first ∙ h .named .math row 1 (h .here) (omega (arith, two)));
-      low = low-last (token (stmt l row) 1 .bytes) (shape .bytes 1 (omega (arith, two)));
     }
   where
     shape : Shaped t (stmt l row)
@@ -136,10 +133,10 @@ pub stub-requires :
     {t w x y z : List ℕ} {n row at i j k : ℕ} → CanStub t w n row → at < 576460752303423488 → i ≡ word w (statement-cell row 2)
     → j ≡ atom-at w n row 0 → k ≡ atom-at w n row 1
     → x ≡ name-bytes t w n i → y ≡ name-bytes t w n j → z ≡ name-bytes t w n k
-    → (at + length x + length y + length z < 1152921504606846976) × (getD z (length z - 1) 0 < 128)
+    → at + length x + length y + length z < 1152921504606846976
 stub-requires {t} {w} {x} {y} {z} {n} {row} {at} can h p q u xs ys zs =
     let f = stub-words can in
     let c : length x ≤ 16777216 = rw (xs, p) (short (f .label .words)) in
     let d : length y ≤ 16777216 = rw (ys, q) (short (f .typecode .words)) in
     let g : length z ≤ 16777216 = rw (zs, u) (short (f .variable .words)) in
-    (omega (arith, c, d, g), rw (zs, u, f .variable .is) (f .low))
+    omega (arith, c, d, g)

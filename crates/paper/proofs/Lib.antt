@@ -12,6 +12,7 @@ pub mod Edges
 pub mod Lookups
 pub mod Readings
 pub mod Measures
+pub mod Conversions
 pub mod Marked
 pub mod Lines
 pub mod Shorts

@@ -17,3 +17,5 @@ pub mod Give
 pub mod Records
 pub mod Answer
 pub mod Lookup
+pub mod Layout
+pub mod Convert

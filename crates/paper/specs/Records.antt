@@ -6,7 +6,7 @@ use Prim.Native.Nat.{ℕ, zero, suc, _+_, _*_, _/_, _%_}
 use lib.ListN.{length, take, drop}
 use Rattle.paper.specs.Base.{choose, gather, table}
 use Rattle.paper.specs.Checks.{Diag}
-use Rattle.paper.specs.Expressions.{raised, Fragment, Expression, Hypothesis, of-float, of-essential}
+use Rattle.paper.specs.Expressions.{Fragment, Expression, Hypothesis, of-float, of-essential}
 use Rattle.paper.specs.Pairs.{Pair}
 use Rattle.paper.specs.Frames.{Full, Frame, stub, full, frame-as}
 use Rattle.paper.specs.Give.{Given}
@@ -75,9 +75,9 @@ full-payload f =
     ++ (u32 (length (f .pairs))
     ++ (gather pair-bytes (f .pairs) ++ gather row-bytes (f .rows)))))))))))
 
--- ---- Kind 1 (`$f`): u32 start, u32 end, label, typecode, stub string (variable, last byte plus 128)
+-- ---- Kind 4 (`$f`): u32 start, u32 end, label, typecode, plain variable string (A10 of document 02)
 unfoldable pub frame-record : Frame → List ℕ
-frame-record (stub o e n c v) = framed 1 (u32 o ++ (u32 e ++ (string n ++ (string c ++ string (raised v)))))
+frame-record (stub o e n c v) = framed 4 (u32 o ++ (u32 e ++ (string n ++ (string c ++ string v))))
 frame-record (full f) = framed (f .kind) (full-payload f)
 
 -- ---- Both streams go in text order, diagnostics of one statement in order of discovery

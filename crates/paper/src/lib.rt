@@ -65,3 +65,10 @@ pub enum Found {
     Malformed(u64),
     Missing,
 }
+
+/// What the converter answers: the used bytes, the first record that does not fit its layout, or the bytes needed.
+pub enum Converted {
+    Renewed(u64),
+    Unfit(u64),
+    NoRoom(u64),
+}

@@ -8,7 +8,7 @@ use native.Mathlib.Omega.{arith}
 use lib.Dec.{eqb, ltb}
 use lib.ListN.{length}
 use borrow.Author.Tests.{lt-ltb, le-ltb, ltb-false}
-use Rattle.paper.specs.Base.{choose}
+use Rattle.paper.specs.Base.{choose, or}
 use Rattle.paper.specs.Lookup.{u32-at}
 use Rattle.stream.specs.Framing.{framing}
 use Rattle.stream.specs.Fields.{counts-in, counts-at, after-strings}
@@ -30,7 +30,7 @@ pub record Counted (l : List ℕ) (p e : ℕ) : Type 0 where
 counted-in : (l : List ℕ) (at : ℕ) (x : Framing) (p e : ℕ) → framing l at ≡ x → counts-in x ≡ From p e → Counted l p e
 counted-in l at Badly p e f q = let z : _≡_ {A = ℕ} 0 1 = cc in absurd (omega arith)
 counted-in l at (Well r) p e f q =
-    let a = past (eqb (r .kind) 1) _ _ _ (not-from p e) q in
+    let a = past (or (eqb (r .kind) 1) (eqb (r .kind) 4)) _ _ _ (not-from p e) q in
     let b = past (ltb (r .after) (r .stop + 4)) _ _ _ (not-from p e) (a .rest) in
     let s : r .stop ≡ p = cc in
     let t : r .after ≡ e = cc in

@@ -1,11 +1,13 @@
 -- The framing of a record, test by test as the code makes them; and that it is the definition's.
 -- For the walk over a frame stream.
 use mathlib.Core.Path.{_≡_, sym, ap, _∙_}
+use mathlib.Core.Bool.{true, false}
 use mathlib.Core.List.{List}
 use Prim.Native.Nat.{ℕ, _+_, _<_, _≤_}
 use lib.ListN.{length}
 use borrow.Author.Tests.{eq-eqb, ne-eqb, lt-ltb, le-ltb}
-use Rattle.paper.specs.Lookup.{u16-at, u32-at, label-place}
+use Rattle.paper.specs.Base.{choose, not}
+use Rattle.paper.specs.Lookup.{u16-at, u32-at, label-place, stub-if}
 use Rattle.stream.specs.Framing.{label-from, label-by, label-in, framing}
 use Rattle.stream.specs.declared.walk.Framing.the-variants.{Well, Badly}
 
@@ -34,11 +36,17 @@ module _ (l : List ℕ) (at k e p : ℕ) (place : p ≡ label-place k) where
       no-label g =
           sym (rw (le-ltb e ((at + p) + 4) h, ← size, lt-ltb e (((at + p) + 4) + n) g)) ∙ placed
 
-      pub well : ((at + p) + 4) + n ≤ e
-          → Well (record { kind = k; label = (at + p) + 4; stop = ((at + p) + 4) + n; after = e }) ≡ label-in l at k e
-      unfolding label-from
-      well g =
-          sym (rw (le-ltb e ((at + p) + 4) h, ← size, le-ltb e (((at + p) + 4) + n) g)) ∙ placed
+      module _ (g : ((at + p) + 4) + n ≤ e) where
+        there : choose (not (stub-if k l (((at + p) + 4) + n) e)) Badly (Well (record { kind = k; label = (at + p) + 4; stop = ((at + p) + 4) + n; after = e })) ≡ label-in l at k e
+        unfolding label-from
+        there = sym (rw (le-ltb e ((at + p) + 4) h, ← size, le-ltb e (((at + p) + 4) + n) g)) ∙ placed
+
+        pub no-stub : stub-if k l (((at + p) + 4) + n) e ≡ false → Badly ≡ label-in l at k e
+        no-stub t = sym (rw t) ∙ there
+
+        pub well : stub-if k l (((at + p) + 4) + n) e ≡ true
+            → Well (record { kind = k; label = (at + p) + 4; stop = ((at + p) + 4) + n; after = e }) ≡ label-in l at k e
+        well t = sym (rw t) ∙ there
 
 -- ---- the record
 module _ (l : List ℕ) (at : ℕ) where

@@ -13,3 +13,4 @@ pub mod Front
 pub mod Fields
 mod Thin
 mod Examples
+pub mod Stubs

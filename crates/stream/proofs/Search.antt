@@ -11,8 +11,8 @@ use lib.Dec.{eqb, ltb}
 use lib.ListN.{length, take, drop, length-drop, drop-of-length-le}
 use lib.Seq.{drop-nil, drop-drop, getD-drop}
 use borrow.Author.Tests.{lt-ltb, ltb-true, ltb-false}
-use Rattle.paper.specs.Base.{choose, sameb}
-use Rattle.paper.specs.Lookup.{u16-at, u32-at, label-place, label-at, label-of, first-of, search-from, look-up}
+use Rattle.paper.specs.Base.{choose, not, sameb}
+use Rattle.paper.specs.Lookup.{u16-at, u32-at, label-place, stub-at, stub-after, stub-if, label-at, label-of, first-of, search-from, look-up}
 use Rattle.paper.specs.declared.Found.{Found}
 use Rattle.paper.specs.declared.Found.the-variants.{At, Malformed, Missing}
 use Rattle.paper.proofs.Tests.{split}
@@ -29,7 +29,7 @@ u16-drop l at i =
     let e : at + (i + 1) ≡ (at + i) + 1 = omega arith in
     rw (getD-drop at l i 0, getD-drop at l (i + 1) 0, e)
 
-u32-drop : (l : List ℕ) (at i : ℕ) → u32-at (drop at l) i ≡ u32-at l (at + i)
+pub u32-drop : (l : List ℕ) (at i : ℕ) → u32-at (drop at l) i ≡ u32-at l (at + i)
 unfolding u32-at
 u32-drop l at i =
     let e : at + (i + 2) ≡ (at + i) + 2 = omega arith in
@@ -57,7 +57,39 @@ there l false x = refl
 under : (t s : Bool) (x y : Option (List ℕ)) → t ≡ s → x ≡ y → choose t none x ≡ choose s none y
 under t s x y p q = rw (p, q)
 
-label-same : (l : List ℕ) (at k u p : ℕ) → p ≡ label-place k → label-at (drop at l) p (4 + u) ≡ label-there l (label-in l at k ((at + 4) + u))
+-- ---- what a record of kind 1 needs after its label
+under-false : (t s : Bool) (x y : Bool) → t ≡ s → x ≡ y → choose t false x ≡ choose s false y
+under-false t s x y p q = rw (p, q)
+
+module _ (l : List ℕ) (at n i : ℕ) where
+  over : (k : ℕ) → ltb n (i + k) ≡ ltb (at + n) ((at + i) + k)
+  over k = same-test n (i + k) (at + n) ((at + i) + k) (λ h. omega arith) (λ h. omega arith)
+
+  further : ltb n ((i + 4) + u32-at (drop at l) i) ≡ ltb (at + n) (((at + i) + 4) + u32-at l (at + i))
+  further =
+      let w = u32-at l (at + i) in
+      rw (u32-drop l at i)
+      (same-test n ((i + 4) + w) (at + n) (((at + i) + 4) + w) (λ h. omega arith) (λ h. omega arith))
+
+  stub-at-drop : stub-at (drop at l) i n ≡ stub-at l (at + i) (at + n)
+  unfolding stub-at
+  stub-at-drop =
+      let j : at + (i + 4) ≡ (at + i) + 4 = omega arith in
+      let d : drop (i + 4) (drop at l) ≡ drop ((at + i) + 4) l = drop-drop (i + 4) at l ∙ ap (λ (m : ℕ). drop m l) j in
+      under-false _ _ _ _ (over 4) (under-false _ _ _ _ further (rw (u32-drop l at i, d)))
+
+stub-after-drop : (l : List ℕ) (at n i : ℕ) → stub-after (drop at l) i n ≡ stub-after l (at + i) (at + n)
+unfolding stub-after
+stub-after-drop l at n i =
+    let j : at + ((i + 4) + u32-at l (at + i)) ≡ ((at + i) + 4) + u32-at l (at + i) = omega arith in
+    under-false _ _ _ _ (over l at n i 4)
+    (under-false _ _ _ _ (further l at n i) (rw (u32-drop l at i) (stub-at-drop l at n ((i + 4) + u32-at l (at + i)) ∙ rw j)))
+
+stub-if-drop : (l : List ℕ) (k at n i : ℕ) → stub-if k (drop at l) i n ≡ stub-if k l (at + i) (at + n)
+unfolding stub-if
+stub-if-drop l k at n i = rw (stub-after-drop l at n i)
+
+label-same : (l : List ℕ) (at k u p : ℕ) → p ≡ label-place k → label-at (drop at l) k p (4 + u) ≡ label-there l (label-in l at k ((at + 4) + u))
 unfolding label-in label-by label-from
 label-same l at k u p e =
     let w = u32-at l (at + p) in
@@ -65,19 +97,29 @@ label-same l at k u p e =
     let d : drop (p + 4) (drop at l) ≡ drop ((at + p) + 4) l =
     drop-drop (p + 4) at l ∙ ap (λ (i : ℕ). drop i l) (index at p) in
     let m : (((at + p) + 4) + w) - ((at + p) + 4) ≡ w = omega arith in
+    let t : stub-if k (drop at l) ((p + 4) + w) (4 + u) ≡ stub-if k l (((at + p) + 4) + w) ((at + 4) + u) =
+    stub-if-drop l k at (4 + u) ((p + 4) + w) ∙ rw (behind at p w, after at u) in
     rw (v, d, ← e)
     (under (eqb p 0) (eqb p 0) _ _ refl
     (under (ltb (4 + u) (p + 4)) (ltb ((at + 4) + u) ((at + p) + 4)) _ _ (same-test (4 + u) (p + 4) ((at + 4) + u) ((at + p) + 4) (λ h. omega arith) (λ h. omega arith))
     (under (ltb (4 + u) ((p + 4) + w)) (ltb ((at + 4) + u) (((at + p) + 4) + w)) _ _ (same-test (4 + u) ((p + 4) + w) ((at + 4) + u) (((at + p) + 4) + w) (λ h. omega arith) (λ h. omega arith))
-    (rw m)))
+    (under (not (stub-if k (drop at l) ((p + 4) + w) (4 + u))) (not (stub-if k l (((at + p) + 4) + w) ((at + 4) + u))) _ _ (ap not t) (rw m))))
     ∙ sym
     (there l (eqb p 0) _
     ∙ ap (choose (eqb p 0) none)
     (there l (ltb ((at + 4) + u) ((at + p) + 4)) _
-    ∙ ap (choose (ltb ((at + 4) + u) ((at + p) + 4)) none) (there l (ltb ((at + 4) + u) (((at + p) + 4) + w)) _))))
+    ∙ ap (choose (ltb ((at + 4) + u) ((at + p) + 4)) none)
+    (there l (ltb ((at + 4) + u) (((at + p) + 4) + w)) _
+    ∙ ap (choose (ltb ((at + 4) + u) (((at + p) + 4) + w)) none) (there l (not (stub-if k l (((at + p) + 4) + w) ((at + 4) + u))) _)))))
   where
     index : (at p : ℕ) → at + (p + 4) ≡ (at + p) + 4
     index at p = omega arith
+
+    behind : (at p w : ℕ) → at + ((p + 4) + w) ≡ ((at + p) + 4) + w
+    behind at p w = omega arith
+
+    after : (at u : ℕ) → at + (4 + u) ≡ (at + 4) + u
+    after at u = omega arith
 
 label-framing : (l : List ℕ) (at : ℕ) → at ≤ length l → label-of (drop at l) ≡ label-there l (framing l at)
 unfolding label-of framing
@@ -123,6 +165,7 @@ stands l at r e =
     let d = past (eqb (label-place k) 0) _ _ _ (not-well r) (c .rest) in
     let f = past (ltb ((at + 4) + u) (p + 4)) _ _ _ (not-well r) (d .rest) in
     let g = past (ltb ((at + 4) + u) ((p + 4) + w)) _ _ _ (not-well r) (f .rest) in
+    let x = past (not (stub-if k l ((p + 4) + w) ((at + 4) + u))) _ _ _ (not-well r) (g .rest) in
     let q : r .after ≡ (at + 4) + u = cc in
     let s : r .label ≡ p + 4 = cc in
     let t : r .stop ≡ (p + 4) + w = cc in

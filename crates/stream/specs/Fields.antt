@@ -4,7 +4,7 @@ use mathlib.Core.List.{List, []}
 use Prim.Native.Nat.{ℕ, zero, suc, _+_, _-_}
 use lib.Dec.{eqb, ltb}
 use lib.ListN.{take, drop}
-use Rattle.paper.specs.Base.{choose}
+use Rattle.paper.specs.Base.{choose, or}
 use Rattle.paper.specs.Lookup.{u16-at, u32-at}
 use Rattle.stream.specs.Framing.{framing}
 use Rattle.stream.specs.declared.walk.Framing.{Framing}
@@ -31,7 +31,7 @@ kind-at l at = kind-in (framing l at)
 
 -- ---- an assertion: what follows its label, from V on, up to the record's end
 abbrev pub counts-in : Framing → Part
-counts-in (Well r) = choose (eqb (r .kind) 1) NoPart (choose (ltb (r .after) (r .stop + 4)) NoPart (From (r .stop) (r .after)))
+counts-in (Well r) = choose (or (eqb (r .kind) 1) (eqb (r .kind) 4)) NoPart (choose (ltb (r .after) (r .stop + 4)) NoPart (From (r .stop) (r .after)))
 counts-in Badly = NoPart
 
 unfoldable pub counts-at : List ℕ → ℕ → Part

@@ -5,8 +5,8 @@ use mathlib.Core.List.{List}
 use Prim.Native.Nat.{ℕ, _+_}
 use lib.Dec.{eqb, ltb}
 use lib.ListN.{length}
-use Rattle.paper.specs.Base.{choose}
-use Rattle.paper.specs.Lookup.{u16-at, u32-at, label-place}
+use Rattle.paper.specs.Base.{choose, not}
+use Rattle.paper.specs.Lookup.{u16-at, u32-at, label-place, stub-if}
 use Rattle.paper.specs.declared.Found.{Found}
 use Rattle.paper.specs.declared.Found.the-variants.{At, Malformed, Missing}
 use Rattle.stream.specs.declared.walk.Framing.{Framing}
@@ -17,7 +17,8 @@ unfoldable pub label-from : List ℕ → ℕ → ℕ → ℕ → Framing
 label-from l k e p =
     choose (ltb e (p + 4)) Badly
     (choose (ltb e ((p + 4) + u32-at l p)) Badly
-    (Well (record { kind = k; label = p + 4; stop = (p + 4) + u32-at l p; after = e })))
+    (choose (not (stub-if k l ((p + 4) + u32-at l p) e)) Badly
+    (Well (record { kind = k; label = p + 4; stop = (p + 4) + u32-at l p; after = e }))))
 
 -- the record at the place `at`, of which the label string stands p bytes after it
 unfoldable pub label-by : List ℕ → ℕ → ℕ → ℕ → ℕ → Framing

@@ -51,6 +51,9 @@ fn counts_at(bytes: &[u8], at: usize) -> Part
     if r.kind == 1 {
         return Part::NoPart;
     }
+    if r.kind == 4 {
+        return Part::NoPart;
+    }
     if r.after - r.stop < 4 {
         return Part::NoPart;
     }

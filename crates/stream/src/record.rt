@@ -4,8 +4,8 @@ use crate::write;
 use paper::StatementOffset;
 use paper::TokenIndex;
 ghost use mathlib.Core.Path.{_≡_};
-ghost use Prim.Native.Nat.{_+_, _-_, _<_, _^_};
-ghost use lib.ListN.{length, getD};
+ghost use Prim.Native.Nat.{_+_, _<_, _^_};
+ghost use lib.ListN.{length};
 ghost use Rattle.paper.specs.Frames.{stub};
 ghost use Rattle.paper.specs.Records.{diag-record, frame-record};
 ghost use Rattle.stream.specs.Wrote.{Wrote, WroteOrKept};
@@ -34,7 +34,7 @@ pub fn put_diag(
     write::put_u32(out, d, other as u64)
 }
 
-/// The stub frame of a `$f`: kind 1, start, end, label, typecode, and the variable with its last byte raised.
+/// The stub frame of a `$f`: kind 4, start, end, label, typecode, variable.
 pub fn put_stub(
     out: &mut [u8],
     at: usize,
@@ -44,15 +44,15 @@ pub fn put_stub(
     typecode: &[u8],
     variable: &[u8],
 ) -> usize
-    requires { ⌜ (at + length (now label) + length (now typecode) + length (now variable) < 2 ^ 60) × (getD (now variable) (length (now variable) - 1) 0 < 128) ⌝ }
+    requires { ⌜ at + length (now label) + length (now typecode) + length (now variable) < 2 ^ 60 ⌝ }
     ensures { λ r. ⌜ (r ≡ at + 26 + length (now (label .entry)) + length (now (typecode .entry)) + length (now (variable .entry))) × Wrote (now (out .entry)) (now (out .exit)) at r (frame-record (stub (start .0) end (now (label .entry)) (now (typecode .entry)) (now (variable .entry)))) ⌝ }
 {
     let n = 22 + label.len() + typecode.len() + variable.len();
     let a = write::put_u32(out, at, n as u64);
-    let b = write::put_u16(out, a, 1);
+    let b = write::put_u16(out, a, 4);
     let c = write::put_u32(out, b, start.0 as u64);
     let d = write::put_u32(out, c, end as u64);
     let e = write::put_string(out, d, label);
     let f = write::put_string(out, e, typecode);
-    write::put_raised_string(out, f, variable)
+    write::put_string(out, f, variable)
 }

@@ -5,7 +5,7 @@ ghost use mathlib.Core.Path.{_≡_};
 ghost use Prim.Native.Nat.{_+_, _-_, _<_, _≤_, _^_};
 ghost use lib.ListN.{length};
 ghost use Rattle.paper.specs.Base.{sameb};
-ghost use Rattle.paper.specs.Lookup.{u16-at, u32-at, label-place, look-up};
+ghost use Rattle.paper.specs.Lookup.{u16-at, u32-at, label-place, stub-string, stub-at, stub-after, stub-if, look-up};
 ghost use Rattle.stream.specs.Framing.{label-in, framing, kept};
 
 /// A well framed record: its kind, where its label starts and stops, and where the next record starts.
@@ -51,7 +51,67 @@ pub fn label_place(kind: usize) -> usize
     if kind == 3 {
         return 10;
     }
+    if kind == 4 {
+        return 14;
+    }
     0
+}
+
+/// Whether bytes are under 128 but for the last, which is not.
+pub fn is_stub(bytes: &[u8]) -> bool
+    ensures { λ r. ⌜ r ≡ stub-string (now (bytes .entry)) ⌝ }
+{
+    let mut i = 0;
+    while i < bytes.len() {
+        if bytes[i] >= 128 {
+            return i + 1 == bytes.len();
+        }
+        i += 1;
+    }
+    false
+}
+
+/// Whether a stub string stands at a place, before `end`.
+fn stub_at(bytes: &[u8], from: usize, end: usize) -> bool
+    requires { ⌜ (from ≤ end) × (end ≤ length (now bytes)) ⌝ }
+    ensures { λ r. ⌜ r ≡ stub-at (now (bytes .entry)) from end ⌝ }
+{
+    if end - from < 4 {
+        return false;
+    }
+    let length = u32_at(bytes, from);
+    if end - from - 4 < length {
+        return false;
+    }
+    let start = from + 4;
+    let stop = start + length;
+    is_stub(&bytes[start..stop])
+}
+
+/// Whether a stub string stands after the typecode at a place, before `end`.
+fn stub_after(bytes: &[u8], from: usize, end: usize) -> bool
+    requires { ⌜ (from ≤ end) × (end ≤ length (now bytes)) ⌝ }
+    ensures { λ r. ⌜ r ≡ stub-after (now (bytes .entry)) from end ⌝ }
+{
+    if end - from < 4 {
+        return false;
+    }
+    let length = u32_at(bytes, from);
+    if end - from - 4 < length {
+        return false;
+    }
+    stub_at(bytes, from + 4 + length, end)
+}
+
+/// Whether a record has what its kind needs after its label: kind 1 a typecode and a stub string.
+fn stub_if(bytes: &[u8], kind: usize, from: usize, end: usize) -> bool
+    requires { ⌜ (from ≤ end) × (end ≤ length (now bytes)) ⌝ }
+    ensures { λ r. ⌜ r ≡ stub-if kind (now (bytes .entry)) from end ⌝ }
+{
+    if kind == 1 {
+        return stub_after(bytes, from, end);
+    }
+    true
 }
 
 /// The label of a record of this kind at a place, which stops at `after`.
@@ -72,6 +132,9 @@ fn label_in(bytes: &[u8], at: usize, kind: usize, after: usize) -> Framing
         return Framing::Badly;
     }
     let stop = label + length;
+    if !stub_if(bytes, kind, stop, after) {
+        return Framing::Badly;
+    }
     Framing::Well(Record {
         kind,
         label,

@@ -99,15 +99,6 @@ pub fn put_raised(out: &mut [u8], at: usize, bytes: &[u8]) -> usize
     put_byte(out, a, bytes[last] + 128)
 }
 
-/// A string of bytes, the last one with 128 added.
-pub fn put_raised_string(out: &mut [u8], at: usize, bytes: &[u8]) -> usize
-    requires { ⌜ (at + 4 + length (now bytes) < 2 ^ 64) × (getD (now bytes) (length (now bytes) - 1) 0 < 128) ⌝ }
-    ensures { λ r. ⌜ (r ≡ at + 4 + length (now (bytes .entry))) × Wrote (now (out .entry)) (now (out .exit)) at r (string (raised (now (bytes .entry)))) ⌝ }
-{
-    let a = put_u32(out, at, bytes.len() as u64);
-    put_raised(out, a, bytes)
-}
-
 /// So many zeros.
 pub fn put_zeros(out: &mut [u8], at: usize, n: usize) -> usize
     requires { ⌜ at + n < 2 ^ 64 ⌝ }

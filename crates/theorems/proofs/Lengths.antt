@@ -147,7 +147,7 @@ see-grows : (l : List (List ℕ)) (n : List ℕ) → length l ≤ length (see l 
 see-grows l n =
     split (member n l) (λ e. rw e (omega arith)) (λ e. rw e (omega (arith, length-append l (n ∷ []))))
 
-sights-grow : (m l : List (List ℕ)) → length l ≤ length (sights m l)
+pub sights-grow : (m l : List (List ℕ)) → length l ≤ length (sights m l)
 unfolding sights
 sights-grow [] l = omega arith
 sights-grow (n ∷ m) l = omega (arith, see-grows l n, sights-grow m (see l n))
@@ -235,11 +235,11 @@ rows-length l d (x ∷ k) h =
 
 -- ---- the payload of a frame record after the statement's offset
 abbrev pub kind-of : Frame → ℕ
-kind-of (stub o e n c v) = 1
+kind-of (stub o e n c v) = 4
 kind-of (full f) = f .kind
 
 abbrev pub rest-of : Frame → List ℕ
-rest-of (stub o e n c v) = u32 e ++ (string n ++ (string c ++ string (raised v)))
+rest-of (stub o e n c v) = u32 e ++ (string n ++ (string c ++ string v))
 rest-of (full f) =
     string (f .label)
     ++ (u16 (length (f .variables))
@@ -262,7 +262,7 @@ Short x = 6 + length (rest-of x) < 4294967296
 
 pub stub-short : (o e : ℕ) (n c v : List ℕ) → length n + (length c + length v) ≤ 16777217 → Short (stub o e n c v)
 stub-short o e n c v h =
-    simp (length-append, u32-length, string-length) (omega (arith, raised-length v))
+    simp (length-append, u32-length, string-length) (omega arith)
 
 pub full-short : (k : ℕ) (s : Statement) (v : State) (f : Formula)
     → state-weight v + (formula-weight f + length (s .label)) ≤ 16777217 → crowded (frame-of k s v f) ≡ false

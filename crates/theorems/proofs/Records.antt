@@ -53,7 +53,7 @@ text-at t i e =
 frame-sound : (c : Setting) (x : Frame) → frame-at x < 4294967296 → Short x → Sound (frame-record (frame-as c x)) (frame-at x)
 frame-sound setting.Full x l h = record { kind = kind-of x; rest = rest-of x; are = frame-framed x; short = h; low = l }
 frame-sound setting.Short (stub o e n c v) l h =
-    record { kind = 1; rest = rest-of (stub o e n c v); are = frame-framed (stub o e n c v); short = h; low = l }
+    record { kind = 4; rest = rest-of (stub o e n c v); are = frame-framed (stub o e n c v); short = h; low = l }
 frame-sound setting.Short (full f) l h =
     record {
       kind = f .kind;
@@ -77,7 +77,7 @@ diag-sound x l =
 frame-offset : (c : Setting) (x : Frame) → frame-at x < 4294967296 → u32-at (frame-record (frame-as c x)) 6 ≡ frame-at x
 frame-offset setting.Full x h = rw (frame-framed x) (offset-framed (kind-of x) (frame-at x) (rest-of x) h)
 frame-offset setting.Short (stub o e n c v) h =
-    rw (frame-framed (stub o e n c v)) (offset-framed 1 o (rest-of (stub o e n c v)) h)
+    rw (frame-framed (stub o e n c v)) (offset-framed 4 o (rest-of (stub o e n c v)) h)
 frame-offset setting.Short (full f) h =
     rw (frame-framed (full (restricted f))) (offset-framed (f .kind) (f .at) (rest-of (full (restricted f))) h)
 

@@ -112,7 +112,7 @@ framed-length k o r h = simp (length-append, u16-length, u32-length) (omega (ari
 record-length : (c : Setting) (x : Frame) → Short x → length (frame-record (frame-as c x)) ≤ 4294967300
 record-length setting.Full x h = rw (frame-framed x) (framed-length (kind-of x) (frame-at x) (rest-of x) h)
 record-length setting.Short (stub o e n c v) h =
-    rw (frame-framed (stub o e n c v)) (framed-length 1 o (rest-of (stub o e n c v)) h)
+    rw (frame-framed (stub o e n c v)) (framed-length 4 o (rest-of (stub o e n c v)) h)
 record-length setting.Short (full f) h =
     rw (frame-framed (full (restricted f)))
     (framed-length (f .kind) (f .at) (rest-of (full (restricted f))) (omega (arith, h, restricted-length f)))

@@ -218,3 +218,15 @@ pub fn damaged(random: &mut Random, bytes: &[u8], put: &[u8]) -> Vec<u8> {
 pub fn number_at(bytes: &[u8], at: usize, size: usize) -> usize {
     bytes[at..at + size].iter().rev().fold(0, |n, &b| n << 8 | b as usize)
 }
+
+/// Whether typecode and stub string, which has 128 added to its last byte alone, stand at the front of some bytes.
+pub fn stub_after_typecode(rest: &[u8]) -> bool {
+    let string = |b: &[u8]| -> Option<(usize, usize)> {
+        let length = b.get(..4).map(|_| number_at(b, 0, 4))?;
+        (length <= b.len() - 4).then_some((4, 4 + length))
+    };
+    let Some((_, typecode)) = string(rest) else { return false };
+    let Some((from, to)) = string(&rest[typecode..]) else { return false };
+    let stub = &rest[typecode + from..typecode + to];
+    stub.split_last().is_some_and(|(last, front)| *last >= 128 && front.iter().all(|b| *b < 128))
+}

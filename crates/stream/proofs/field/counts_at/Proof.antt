@@ -32,20 +32,24 @@ returns-2 : tie.Need-returns-2
 unfolding counts-at
 returns-2 c = rw (sym (c .before .before .before .before .before .record-at .ensures) ∙ c .before .before .before .r .given .1, eq-eqb _ _ (c .if1 .taken))
 
-sub-if2 : tie.Need-sub-if2
-sub-if2 c = omega (arith, stood (c .before .before .before) .stop)
-
 returns-3 : tie.Need-returns-3
 unfolding counts-at
-returns-3 c =
-    let s = stood (c .before .before .before .before) .stop in
-    rw (sym (c .before .before .before .before .before .before .before .record-at .ensures) ∙ c .before .before .before .before .before .r .given .1, ne-eqb _ _ (c .before .before .if1 .left), lt-ltb (c .before .before .before .before .before .r .given .0 .0 .after) (c .before .before .before .before .before .r .given .0 .0 .stop + 4) (omega arith))
+returns-3 c = rw (sym (c .before .before .before .before .before .before .before .record-at .ensures) ∙ c .before .before .before .before .before .r .given .1, ne-eqb _ _ (c .before .before .if1 .left), eq-eqb _ _ (c .if2 .taken))
+
+sub-if3 : tie.Need-sub-if3
+sub-if3 c = omega (arith, stood (c .before .before .before .before .before) .stop)
 
 returns-4 : tie.Need-returns-4
 unfolding counts-at
 returns-4 c =
-    let s = stood (c .before .before .before .before) .stop in
-    rw (sym (c .before .before .before .before .before .before .before .record-at .ensures) ∙ c .before .before .before .before .before .r .given .1, ne-eqb _ _ (c .before .before .if1 .left), le-ltb (c .before .before .before .before .before .r .given .0 .0 .after) (c .before .before .before .before .before .r .given .0 .0 .stop + 4) (omega arith))
+    let s = stood (c .before .before .before .before .before .before) .stop in
+    rw (sym (c .before .before .before .before .before .before .before .before .before .record-at .ensures) ∙ c .before .before .before .before .before .before .before .r .given .1, ne-eqb _ _ (c .before .before .before .before .if1 .left), ne-eqb _ _ (c .before .before .if2 .left), lt-ltb (c .before .before .before .before .before .before .before .r .given .0 .0 .after) (c .before .before .before .before .before .before .before .r .given .0 .0 .stop + 4) (omega arith))
+
+returns-5 : tie.Need-returns-5
+unfolding counts-at
+returns-5 c =
+    let s = stood (c .before .before .before .before .before .before) .stop in
+    rw (sym (c .before .before .before .before .before .before .before .before .before .record-at .ensures) ∙ c .before .before .before .before .before .before .before .r .given .1, ne-eqb _ _ (c .before .before .before .before .if1 .left), ne-eqb _ _ (c .before .before .if2 .left), le-ltb (c .before .before .before .before .before .before .before .r .given .0 .0 .after) (c .before .before .before .before .before .before .before .r .given .0 .0 .stop + 4) (omega arith))
 
 pub counts-at-spec : {M : Type 1} → statement M
 counts-at-spec =
@@ -56,6 +60,7 @@ counts-at-spec =
     enum-told
     returns
     returns-2
-    sub-if2
     returns-3
-    returns-4)
+    sub-if3
+    returns-4
+    returns-5)

@@ -6,7 +6,6 @@ use Rattle.stream.proofs.record.put_stub.Statement.{statement}
 use Rattle.stream.proofs.record.put_stub.Tie as tie
 use Rattle.stream.proofs.record.put_stub.Reads as reads
 use Rattle.stream.proofs.record.put_stub.Lts as lts
-use Rattle.stream.proofs.write.put_raised_string.Reads as put-raised-string-reads
 use Rattle.stream.proofs.write.put_string.Reads as put-string-reads
 use Rattle.stream.proofs.write.put_u16.Reads as put-u16-reads
 use Rattle.stream.proofs.write.put_u32.Reads as put-u32-reads
@@ -41,8 +40,8 @@ put-string-requires c κs = search needs
 put-string-requires-2 : tie.Need-put-string-requires-2
 put-string-requires-2 c κs = search needs
 
-put-raised-string-requires : tie.Need-put-raised-string-requires
-put-raised-string-requires c κs = search needs
+put-string-requires-3 : tie.Need-put-string-requires-3
+put-string-requires-3 c κs = search needs
 
 same-length : tie.Need-same-length
 same-length c = search needs
@@ -55,7 +54,7 @@ returns c = (
       (wrote-then (c .before .before .before .before .before .before .before .before .before .before .before .before .before .before .before .before .before .before .put-u322 .ensures .1)
       (wrote-then (c .before .before .before .before .before .before .before .before .before .before .before .before .before .before .put-u323 .ensures .1)
       (wrote-then (c .before .before .before .before .before .before .before .before .before .before .put-string .ensures .1)
-      (wrote-then (c .before .before .before .before .before .before .put-string2 .ensures .1) (c .before .before .put-raised-string .ensures .1)))))),
+      (wrote-then (c .before .before .before .before .before .before .put-string2 .ensures .1) (c .before .before .put-string3 .ensures .1)))))),
 )
 
 pub put-stub-spec : {M : Type 1} → statement M
@@ -72,6 +71,6 @@ put-stub-spec =
     put-u32-requires-3
     put-string-requires
     put-string-requires-2
-    put-raised-string-requires
+    put-string-requires-3
     same-length
     returns)

@@ -1,11 +1,14 @@
+use mathlib.Core.Path.{sym, _∙_}
 use native.Mathlib.Omega.{arith}
-use Rattle.stream.proofs.Framing.{no-place, no-length, no-label, well}
+use borrow.Author.Tests.{not-true, not-false}
+use Rattle.stream.proofs.Framing.{no-place, no-length, no-label, no-stub, well}
 use borrow.Author.Needs.{needs}
 use Rattle.stream.proofs.walk.label_in.Statement.{statement}
 use Rattle.stream.proofs.walk.label_in.Tie as tie
 use Rattle.stream.proofs.walk.label_in.Reads as reads
 use Rattle.stream.proofs.walk.label_in.Lts as lts
 use Rattle.stream.proofs.walk.label_place.Reads as label-place-reads
+use Rattle.stream.proofs.walk.stub_if.Reads as stub-if-reads
 use Rattle.stream.proofs.walk.u32_at.Reads as u32-at-reads
 
 label-place-requires : tie.Need-label-place-requires
@@ -44,8 +47,14 @@ returns-3 c = no-label _ _ _ _ _ (c .before .before .before .before .label-place
 add-stop : tie.Need-add-stop
 add-stop c = search needs
 
+stub-if-requires : tie.Need-stub-if-requires
+stub-if-requires c κs = search needs
+
 returns-4 : tie.Need-returns-4
-returns-4 c = well _ _ _ _ _ (c .before .before .before .before .label-place .ensures .1) (c .before .before .before .if1 .left) (omega arith) _ (c .before .u32-at .ensures .1) (omega arith)
+returns-4 c = no-stub _ _ _ _ _ (c .before .before .before .before .before .before .label-place .ensures .1) (c .before .before .before .before .before .if1 .left) (omega arith) _ (c .before .before .before .u32-at .ensures .1) (omega arith) (sym (c .before .stub-if .ensures) ∙ not-true _ (c .if4 .taken))
+
+returns-5 : tie.Need-returns-5
+returns-5 c = well _ _ _ _ _ (c .before .before .before .before .before .before .label-place .ensures .1) (c .before .before .before .before .before .if1 .left) (omega arith) _ (c .before .before .before .u32-at .ensures .1) (omega arith) (sym (c .before .stub-if .ensures) ∙ not-false _ (c .if4 .left))
 
 pub label-in-spec : {M : Type 1} → statement M
 label-in-spec =
@@ -63,4 +72,6 @@ label-in-spec =
     sub-if3
     returns-3
     add-stop
-    returns-4)
+    stub-if-requires
+    returns-4
+    returns-5)

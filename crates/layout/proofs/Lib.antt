@@ -1,0 +1,15 @@
+pub mod Cuts
+pub mod Lowered
+pub mod Hypotheses
+pub mod Tails
+pub mod Fit
+pub mod Streams
+pub mod Local
+pub mod Stubs
+pub mod Renewing
+pub mod Converted
+pub mod Takes
+pub mod Formed
+pub mod Written
+pub mod Even
+pub mod WrittenFits
