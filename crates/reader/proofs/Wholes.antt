@@ -20,7 +20,7 @@ use Rattle.paper.specs.declared.Reading.the-variants.{Read, Unread}
 use Rattle.paper.specs.declared.Refusal.{Refusal}
 use Rattle.paper.specs.declared.Refusal.the-variants.{LongText, ShortWork, BadByte, OpenText}
 use Rattle.paper.proofs.Tests.{split}
-use Rattle.area.specs.Cells.{statement-cell, math-cell, word, Cleared}
+use Rattle.area.specs.Cells.{statement-cell, bucket-cell, math-cell, word, Cleared}
 use Rattle.reader.specs.Rows.{stmt, before, Shape, Rows}
 use Rattle.reader.specs.Passed.{Passed}
 use Rattle.reader.specs.Kept.{stated, Row, Words}
@@ -97,7 +97,6 @@ row-ended q h =
       first = h .first;
       count = h .count;
       part = h .part;
-      rest = h .rest;
       bears = h .bears;
       math = h .math;
       stands = h .stands;
@@ -153,33 +152,17 @@ module _ {t w : List ℕ} {n : ℕ} {s : State} (f : Finished t w n s) where
     all-maths : before all (length all) ≡ s .maths
     all-maths = rw count (ends-before (f .found) [] (s .rows) ∙ f .words .all-maths)
 
-    -- the item words and the stack are cleared, and what stands around them was 0
-    beside : (i : ℕ) → 7 * n ≤ i → i < 15 * n → word v i ≡ 0
-    beside i a b =
-        let few = f .items-few in
-        split (ltb i (7 * n + s .items))
+    -- the item words are cleared, and what stands after them was 0
+    buckets : (b : ℕ) → b < n → word v (bucket-cell n b) ≡ 0
+    buckets b a =
+        split (ltb b (s .items))
         (λ q.
-        let l : i < 7 * n + s .items = ltb-true i (7 * n + s .items) q in
-        c₂ .only .below i (omega arith) ∙ c₁ .zeros i a l)
+        let l : b < s .items = ltb-true b (s .items) q in
+        c₂ .only .below (bucket-cell n b) (omega arith) ∙ c₁ .zeros (bucket-cell n b) (omega arith) (omega arith))
         (λ q.
-        let l : 7 * n + s .items ≤ i = ltb-false i (7 * n + s .items) q in
-        split (ltb i (8 * n))
-        (λ p.
-        let m : i < 8 * n = ltb-true i (8 * n) p in
-        c₂ .only .below i m ∙ c₁ .only .above i l ∙ e .aside .rest i (omega (arith, f .few)) m ∙ f .words .fresh i l b)
-        (λ p.
-        let m : 8 * n ≤ i = ltb-false i (8 * n) p in
-        split (ltb i (8 * n + s .items))
-        (λ r. c₂ .zeros i m (ltb-true i (8 * n + s .items) r))
-        (λ r. high i (ltb-false i (8 * n + s .items) r) ∙ f .words .fresh i l b)))
-
-    between : (i : ℕ) → 12 * length all ≤ i → i < 15 * n → word v i ≡ 0
-    between i a b =
-        split (ltb i (7 * n))
-        (λ q.
-        let l : i < 7 * n = ltb-true i (7 * n) q in
-        low i l ∙ e .aside .rest i (omega (arith, count)) (omega arith) ∙ f .words .blank i (omega (arith, count)) l)
-        (λ q. beside i (ltb-false i (7 * n) q) b)
+        let l : s .items ≤ b = ltb-false b (s .items) q in
+        c₂ .only .below (bucket-cell n b) (omega arith) ∙ c₁ .only .above (bucket-cell n b) (omega arith)
+        ∙ e .aside .rest (bucket-cell n b) (omega (arith, f .few)) (omega arith) ∙ f .words .fresh (bucket-cell n b) (omega arith) (omega arith))
 
     shape : Shape t v n all
     shape =
@@ -207,9 +190,7 @@ module _ {t w : List ℕ} {n : ℕ} {s : State} (f : Finished t w n s) where
           bears = λ r l. row r l .bears;
           math = λ r j l. row r l .math j;
           stands = λ r j l. row r l .stands j;
-          statement-rest = λ r o l. row r l .rest o;
-          between = between;
-          above = λ i l. high i (omega (arith, f .items-few)) ∙ f .words .above i (omega (arith, all-maths));
+          buckets = buckets;
         }
 
     pub text-read : (m : ℕ) → length v ≡ m → Answers t v m (with-ends (items (tokens t) (length t))) (Read (s .rows) (s .maths))
@@ -231,15 +212,16 @@ bad-none (some q) e = let z : _≡_ {A = ℕ} 0 1 = cc in absurd (omega arith)
 pub counted-tokens : (t : List ℕ) {x : Counted} → x ≡ count-of t → x .tokens ≡ length (tokens t)
 counted-tokens t e = ap (λ (y : Counted). y .tokens) e
 
-module _ (t w : List ℕ) {v : List ℕ} (z : v ≡ replicate (length w) 0) where
-  pub read-long : 16777216 < length t → Reads t w v (Unread LongText)
+module _ (t w : List ℕ) where
+  -- a refusal, where every word is 0
+  pub read-long : {v : List ℕ} → v ≡ replicate (length w) 0 → 16777216 < length t → Reads t w v (Unread LongText)
   unfolding reading
-  read-long h = rw (lt-ltb 16777216 (length t) h) (refl, z)
+  read-long z h = rw (lt-ltb 16777216 (length t) h) (refl, z)
 
   module _ (h : length t ≤ 16777216) {x : Counted} (e : x ≡ count-of t) where
-    pub read-short : length w < 16 * (x .tokens + 1) → Reads t w v (Unread (ShortWork (16 * (x .tokens + 1))))
+    pub read-short : {v : List ℕ} → v ≡ replicate (length w) 0 → length w < 16 * (x .tokens + 1) → Reads t w v (Unread (ShortWork (16 * (x .tokens + 1))))
     unfolding reading words
-    read-short l =
+    read-short z l =
         let q = counted-tokens t e in
         rw (q, le-ltb 16777216 (length t) h, lt-ltb (length w) (16 * (length (tokens t) + 1)) (omega (arith, l, q))) (refl, z)
 
@@ -247,20 +229,18 @@ module _ (t w : List ℕ) {v : List ℕ} (z : v ≡ replicate (length w) 0) wher
       fits : ltb (length w) (16 * (length (tokens t) + 1)) ≡ false
       fits = let q = counted-tokens t e in le-ltb (length w) (16 * (length (tokens t) + 1)) (omega (arith, l, q))
 
-      pub read-bad : (p : ℕ) → x .bad ≡ At p → Reads t w v (Unread (BadByte p))
+      pub read-bad : {v : List ℕ} → v ≡ replicate (length w) 0 → (p : ℕ) → x .bad ≡ At p → Reads t w v (Unread (BadByte p))
       unfolding reading words
-      read-bad p q =
+      read-bad z p q =
           let b : bad-from t 0 ≡ some p = bad-some (bad-from t 0) p (sym (ap (λ (y : Counted). y .bad) e) ∙ q) in
           rw (le-ltb 16777216 (length t) h, fits, b) (refl, z)
 
-      pub read-begin : Words t v (x .tokens + 1) [] 0 0 0
-      read-begin =
-          let q = counted-tokens t e in
-          words-start t v (x .tokens + 1) (length w) (rw q refl) (omega (arith, l, ap length z, length-replicate {A = ℕ} (length w) 0)) h z
+      module _ {v : List ℕ} (z : Cleared (7 * (x .tokens + 1)) (8 * (x .tokens + 1)) w v) where
+        pub read-begin : Words t v (x .tokens + 1) [] 0 0 0
+        read-begin = let q = counted-tokens t e in words-start (rw q refl) l h z
 
-      pub read-good : (u : List ℕ) (r : Reading) → x .bad ≡ Nowhere → TextRead t v u (x .tokens + 1) r → Reads t w u r
-      unfolding reading words
-      read-good u r q d =
-          let b : bad-from t 0 ≡ none = bad-none (bad-from t 0) (sym (ap (λ (y : Counted). y .bad) e) ∙ q) in
-          let k : length v ≡ length w = ap length z ∙ length-replicate {A = ℕ} (length w) 0 in
-          rw (le-ltb 16777216 (length t) h, fits, b) (rw k at d)
+        pub read-good : (u : List ℕ) (r : Reading) → x .bad ≡ Nowhere → TextRead t v u (x .tokens + 1) r → Reads t w u r
+        unfolding reading words
+        read-good u r q d =
+            let b : bad-from t 0 ≡ none = bad-none (bad-from t 0) (sym (ap (λ (y : Counted). y .bad) e) ∙ q) in
+            rw (le-ltb 16777216 (length t) h, fits, b) (rw (z .only .len) at d)

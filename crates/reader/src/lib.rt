@@ -2,6 +2,7 @@
 // What it leaves there is said in `specs/Rows.antt`; that and the answer are all that the crates above see.
 use crate::whole::read_text;
 use area::clear;
+use area::clear_part;
 use paper::Reading;
 use paper::Refusal;
 use token::class::table;
@@ -22,20 +23,25 @@ pub mod whole;
 pub fn read(text: &[u8], work: &mut [u32]) -> Reading
     ensures { λ r. ⌜ Reads (now (text .entry)) (now (work .entry)) (now (work .exit)) r ⌝ }
 {
-    clear(work);
     if 16777216 < text.len() {
+        clear(work);
         return Reading::Unread(Refusal::LongText);
     }
     let counted = count(text);
     let n = counted.tokens + 1;
     if work.len() < 16 * n {
+        clear(work);
         return Reading::Unread(Refusal::ShortWork((16 * n) as u64));
     }
     let bad = counted.bad;
     match bad {
-        Bad::At(p) => Reading::Unread(Refusal::BadByte(p as u64)),
+        Bad::At(p) => {
+            clear(work);
+            Reading::Unread(Refusal::BadByte(p as u64))
+        }
         Bad::Nowhere => {
             let classes = table();
+            clear_part(work, 7 * n, 8 * n);
             read_text(&classes, text, work, n)
         }
     }
