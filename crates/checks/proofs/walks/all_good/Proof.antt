@@ -4,7 +4,6 @@ use Prim.Native.Nat.{_-_}
 use borrow.Author.Tests.{not-false}
 use Rattle.paper.proofs.Tests.{clash}
 use Rattle.checks.proofs.Good.{InvGood, good-start, good-step, good-end}
-use borrow.Author.Needs.{needs}
 use Rattle.checks.proofs.walks.all_good.Statement.{statement}
 use Rattle.checks.proofs.walks.all_good.Tie as tie
 use Rattle.checks.proofs.walks.all_good.Reads as reads
