@@ -4,4 +4,5 @@ pub mod Ones
 pub mod Comments
 pub mod Each
 pub mod OverRows
+pub mod Good
 pub mod OverPart

@@ -82,6 +82,10 @@ pub record EapToken (w out out′ : List ℕ) (n at q a s i : ℕ) : Type 0 wher
       {t : List ℕ} {l : List Statement} {x : State} {y : Token} (k : ℕ) → Sees t w n l x a s y → Floats w n l (x .hyps) k s
       → Wrote out out′ at q (gather diag-record (symbol-token l (view x s) s i y))
 
+-- it gets no diagnostic, wherever they stand
+abbrev pub Good : List ℕ → ℕ → ℕ → ℕ → ℕ → Type 0
+Good w n a s i = (out : List ℕ) (at : ℕ) → EapToken w out out n at at a s i
+
 -- of a `$d`, after the tokens d and before the tokens m
 pub record DvOne (t w v out out′ : List ℕ) (n at q : ℕ) (l : List Statement) (x : State) (d : List Token) (y : Token) (m : List Token) (s i : ℕ) : Type 0 where
   pub marks : Marks v n l (d ++ (y ∷ []))

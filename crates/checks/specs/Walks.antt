@@ -48,6 +48,10 @@ pub record WalkEap (w out out′ : List ℕ) (n at q f c s : ℕ) : Type 0 where
       → Nests w n l (x .nested) s → Floats w n l (x .hyps) j s
       → Wrote out out′ at q (gather diag-record (check-expression l (view x s) (stmt l k)))
 
+-- no token gets a diagnostic, wherever they stand
+abbrev pub AllGood : List ℕ → ℕ → ℕ → ℕ → ℕ → Type 0
+AllGood w n f c s = (out : List ℕ) (at : ℕ) → WalkEap w out out n at at f c s
+
 -- ---- `$d`
 pub record WalkedDv (w v out out′ : List ℕ) (n at q : ℕ) (l : List Statement) (x : State) (k s : ℕ) : Type 0 where
   pub marks : Marks v n l (stmt l k .math)

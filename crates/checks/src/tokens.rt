@@ -17,6 +17,7 @@ use paper::Atom;
 use paper::StatementOffset;
 use paper::TokenIndex;
 use paper::TokenOffset;
+use slots::CheckedToken;
 use slots::FloatSlot;
 use slots::NestedSlot;
 use slots::cells::of_statement;
@@ -27,11 +28,12 @@ use slots::look::record_nested;
 use slots::mark::see;
 use stream::record::put_diag;
 ghost use mathlib.Core.Path.{_≡_};
+ghost use mathlib.Core.Bool.{true};
 ghost use Prim.Native.Nat.{_<_};
 ghost use Rattle.slots.specs.Kept.{Room};
 ghost use Rattle.slots.specs.Slots.{nested-slot};
 ghost use Rattle.checks.specs.Found.{verdict-known};
-ghost use Rattle.checks.specs.Tokens.{Can, HasFloat, Clashes, Outer, Judged, NestedToken, EapToken, DvToken, earlier-slot, Float, Label};
+ghost use Rattle.checks.specs.Tokens.{Can, HasFloat, Clashes, Outer, Judged, NestedToken, EapToken, Good, DvToken, earlier-slot, Float, Label};
 
 /// Kind 1: a label that another statement owns.
 pub fn check_label(
@@ -165,6 +167,26 @@ pub fn check_eap_token(
     let c = check_math_symbol(work, n, atom, s);
     let f = lookup_float(work, n, atom, s);
     put_symbol(diags, at, c, f, s, i)
+}
+
+/// Whether a token of a `$e`, `$a` or `$p` gets no diagnostic: a constant, or a variable with a `$f` that is not token 0.
+pub fn is_good(work: &[u32], n: usize, atom: Atom, s: StatementOffset, i: TokenIndex) -> bool
+    requires { ⌜ Room (now work) n × (atom .0 < n) × HasFloat (now work) n (atom .0) ⌝ }
+    ensures { λ r. ⌜ (r ≡ true → Good (now (work .entry)) n (atom .0) (s .0) (i .0)) ⌝ }
+{
+    match check_math_symbol(work, n, atom, s) {
+        CheckedToken::Inactive => false,
+        CheckedToken::Constant(_) => true,
+        CheckedToken::Variable(_) => {
+            if i.0 == 0 {
+                return false;
+            }
+            let FloatSlot::At(_) = lookup_float(work, n, atom, s) else {
+                return false;
+            };
+            true
+        }
+    }
 }
 
 /// A token of a `$d`; the first token of its name gets a mark.

@@ -5,6 +5,7 @@ use crate::tokens::check_dv_token;
 use crate::tokens::check_eap_token;
 use crate::tokens::check_nested;
 use crate::tokens::check_outer;
+use crate::tokens::is_good;
 use paper::Atom;
 use paper::StatementOffset;
 use paper::TokenIndex;
@@ -16,14 +17,52 @@ use slots::mark::forget_dv;
 use token::class::table;
 use token::cursor::Cursor;
 ghost use mathlib.Core.Path.{_≡_};
+ghost use mathlib.Core.Bool.{true};
 ghost use Prim.Native.Nat.{_+_, _≤_};
 ghost use lib.ListN.{length};
 ghost use Rattle.slots.specs.Kept.{Room};
+ghost use Rattle.slots.specs.Marks.{Atoms};
 ghost use Rattle.checks.specs.Visible.{visible-from, Calm};
-ghost use Rattle.checks.specs.Walks.{Walk, HasFloats, WalkEap, WalkDv, CheckedDv, LastTwo, WalkPart, WalkOuter, WalkNested};
+ghost use Rattle.checks.specs.Walks.{Walk, HasFloats, AllGood, WalkEap, WalkDv, CheckedDv, LastTwo, WalkPart, WalkOuter, WalkNested};
+
+/// Whether no one of `count` tokens of a `$e`, `$a` or `$p` gets a diagnostic.
+pub fn all_good(work: &[u32], n: usize, first: usize, count: usize, s: StatementOffset) -> bool
+    requires { ⌜ Room (now work) n × Atoms (now work) n first count × HasFloats (now work) n first count ⌝ }
+    ensures { λ r. ⌜ (r ≡ true → AllGood (now (work .entry)) n first count (s .0)) ⌝ }
+{
+    let mut i = 0;
+    while i < count {
+        let atom = Atom(of_math(work, n, first + i));
+        if !is_good(work, n, atom, s, TokenIndex(i as u32)) {
+            return false;
+        }
+        i += 1;
+    }
+    true
+}
+
+/// The `count` tokens of a `$e`, `$a` or `$p`, whose math string is `part`; it is gone over only if one gets a diagnostic.
+pub fn check_eap(
+    part: &[u8],
+    work: &[u32],
+    n: usize,
+    diags: &mut [u8],
+    at: usize,
+    first: usize,
+    count: usize,
+    s: StatementOffset,
+) -> usize
+    requires { ⌜ Walk (now work) n at first count × HasFloats (now work) n first count × (length (visible-from (now part) 0) ≡ count) × Calm (now part) ⌝ }
+    ensures { λ r. ⌜ WalkEap (now (work .entry)) (now (diags .entry)) (now (diags .exit)) n at r first count (s .0) ⌝ }
+{
+    if all_good(work, n, first, count, s) {
+        return at;
+    }
+    walk_eap(part, work, n, diags, at, first, s)
+}
 
 /// The tokens of a `$e`, `$a` or `$p`, whose math string is `part`.
-pub fn check_eap(
+pub fn walk_eap(
     part: &[u8],
     work: &[u32],
     n: usize,

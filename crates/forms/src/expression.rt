@@ -117,20 +117,3 @@ pub fn put_spelled(
     stream::write::put_u32(buf, a, r.variables as u64);
     r
 }
-
-/// The same, by the place reached in the buffer alone.
-pub fn put_expression(
-    text: &[u8],
-    work: &[u32],
-    n: usize,
-    buf: &mut [u8],
-    at: usize,
-    row: StatementRow,
-    pool: usize,
-) -> usize
-    requires { ⌜ RowWords (now text) (now work) n (row .0) × RowNumbers (now work) n (row .0) × (at < 2 ^ 60) × (pool < 2 ^ 60) ⌝ }
-    ensures { λ r. ⌜ PutExpression (now (text .entry)) (now (work .entry)) n (row .0) pool (now (buf .entry)) (now (buf .exit)) at r ⌝ }
-{
-    let r = put_spelled(text, work, n, buf, at, row, pool);
-    r.at
-}

@@ -3,6 +3,7 @@ pub mod Fronts
 pub mod Variables
 pub mod Body
 pub mod Parts
+pub mod Past
 pub mod Scanned
 pub mod Assembled
 pub mod Stages

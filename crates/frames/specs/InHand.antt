@@ -15,6 +15,8 @@ use Rattle.stream.specs.Wrote.{Wrote}
 use Rattle.reader.specs.Rows.{stmt}
 use Rattle.nameck.specs.Atoms.{atoms}
 use Rattle.sight.specs.Static.{static, row-hyp, stack}
+use Rattle.forms.specs.Puts.{StackLength}
+use Rattle.forms.specs.Spelling.{Pooled}
 use Rattle.forms.specs.HypRows.{HypState}
 use Rattle.disjoint.specs.Written.{names-at, disjoint-bytes, Active}
 use Rattle.frames.specs.Front.{front, OfAssertion}
@@ -75,6 +77,12 @@ pub record PutMiddle (t w : List ℕ) (n row es z k : ℕ) (b b′ : List ℕ) (
   pub sim :
       (l : List Statement) (h : List ℕ) (vs m : List (List ℕ)) → InHand t w n l h vs m row es z k
       → Wrote b b′ at r (middle l h m row)
+
+-- the pool of es active `$e` and of a row is z bytes long
+pub record PoolEnd (w : List ℕ) (n es row z : ℕ) : Type 0 where
+  pub stack : ℕ
+  pub counted : StackLength w n es stack
+  pub pooled : Pooled w n row stack z
 
 pub record PutFrame (t w u : List ℕ) (n row es ds z k : ℕ) (b b′ : List ℕ) (at r : ℕ) : Type 0 where
   pub words : u ≡ w

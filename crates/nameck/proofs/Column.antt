@@ -45,28 +45,28 @@ pub column-kept : {w v : List ℕ} {n c : ℕ} {l : List (List ℕ)} {f : List �
 column-kept h k x =
     record {
       holds = λ a g. k a (omega arith) ∙ x .holds a g;
-      blank = λ a g b. k a b ∙ x .blank a g b;
       unseen = x .unseen;
     }
 
--- ---- one more name
-pub column-see : {w : List ℕ} {n c : ℕ} {l : List (List ℕ)} {f : List ℕ → ℕ} (x : List ℕ) → length (see l x) ≤ n → Column w n c l f → Column w n c (see l x) f
-column-see {w} {n} {c} {l} {f} x h k =
-    split (member x l) (λ e. rw e k)
+-- ---- one more name, whose word is 0 if it is new
+pub column-see : {w v : List ℕ} {n c : ℕ} {l : List (List ℕ)} {f : List ℕ → ℕ} (x : List ℕ)
+    → ((a : ℕ) → a < length l → word v (symbol-cell n a c) ≡ word w (symbol-cell n a c))
+    → ((a : ℕ) → length l ≤ a → a < length (see l x) → word v (symbol-cell n a c) ≡ 0) → Column w n c l f → Column v n c (see l x) f
+column-see {w} {v} {n} {c} {l} {f} x h z k =
+    split (member x l) (λ e. rw e (record { holds = λ a g. h a g ∙ k .holds a g; unseen = k .unseen }))
     (λ e. rw e
     (record {
-      holds = λ a g. holds e (rw e at h) a g;
-      blank = λ a g b. k .blank a (omega (arith, length-append l (x ∷ []))) b;
+      holds = λ a g. holds e (rw e at z) a g;
       unseen = λ y g. k .unseen y (member-none y l (x ∷ []) g);
     }))
   where
-    holds : member x l ≡ false → length (l ++ (x ∷ [])) ≤ n → (a : ℕ) → a < length (l ++ (x ∷ [])) → word w (symbol-cell n a c) ≡ f (getD (l ++ (x ∷ [])) a [])
+    holds : member x l ≡ false → ((a : ℕ) → length l ≤ a → a < length (l ++ (x ∷ [])) → word v (symbol-cell n a c) ≡ 0) → (a : ℕ) → a < length (l ++ (x ∷ [])) → word v (symbol-cell n a c) ≡ f (getD (l ++ (x ∷ [])) a [])
     holds e r a g =
         split (ltb a (length l))
-        (λ q. let b : a < length l = ltb-true _ _ q in rw (List·getD-append l (x ∷ []) [] a b) (k .holds a b))
+        (λ q. let b : a < length l = ltb-true _ _ q in rw (List·getD-append l (x ∷ []) [] a b) (h a b ∙ k .holds a b))
         (λ q. let b : length l ≤ a = ltb-false _ _ q in
         let s : a ≡ length l + 0 = omega (arith, length-append l (x ∷ [])) in
-        k .blank a b (omega (arith, length-append l (x ∷ [])))
+        r a b g
         ∙ sym (ap (λ i. f (getD (l ++ (x ∷ [])) i [])) s ∙ ap f (getD-append-add l (x ∷ []) 0 []) ∙ k .unseen x e))
 
 -- ---- the first note of a name: f and then g say what the word holds
@@ -97,9 +97,6 @@ module _ {w : List ℕ} {n c : ℕ} {l : List (List ℕ)} {f g : List ℕ → �
   column-note =
       record {
         holds = λ a h. split (eqb a (index l x)) (λ e. at-name a h (eqb-true _ _ e)) (λ e. at-other a h (eqb-ne e));
-        blank = λ a h b.
-            noted-other w (symbol-cell n (index l x) c) u (symbol-cell n a c) (λ p. omega (arith, p, index-lt x l m))
-            ∙ k .blank a h b;
         unseen = λ y e.
             other y (split (sameb x y) (λ p. absurd (clash (sym m ∙ ap (λ z. member z l) (same-eq x y p) ∙ e))) (λ p. p))
             ∙ k .unseen y e;

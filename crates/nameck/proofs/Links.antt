@@ -63,22 +63,21 @@ module _ {w : List ℕ} {n m : ℕ} {x : ℕ → List ℕ} (h : Linked w n m x) 
       let z : word w (way w n s d) ≢ 0 = k d (omega arith) in
       at-link (word w (way w n s d) - 1) (fork s d) (omega (arith, z)) refl
 
--- ---- where all words are empty, no name is linked
+-- ---- where all heads are empty, no name is linked
 pub link-in : (n a : ℕ) (r : Bool) → a < n → (4 * n ≤ link n a r) × (link n a r < 15 * n)
 unfolding link
 link-in n a true h = (omega arith, omega arith)
 link-in n a false h = (omega arith, omega arith)
 
-pub none-linked : {w : List ℕ} {n : ℕ} {x : ℕ → List ℕ} → ((i : ℕ) → 4 * n ≤ i → i < 15 * n → word w i ≡ 0) → Linked w n 0 x
-none-linked {n = n} z =
+pub none-linked : {w : List ℕ} {n : ℕ} {x : ℕ → List ℕ} → ((b : ℕ) → b < n → word w (bucket-cell n b) ≡ 0) → Linked w n 0 x
+none-linked z =
     record {
       depth = λ a. 0;
       comes = λ a k. absurd (not-suc-le-zero k);
       passes = λ a d k. absurd (not-suc-le-zero k);
-      heads = λ b k. omega (arith, z (bucket-cell n b) (omega arith) (omega arith));
+      heads = λ b k. omega (arith, z b k);
       links = λ a r k. absurd (not-suc-le-zero k);
       later = λ a r k. absurd (not-suc-le-zero k);
-      free = λ a r k l. z (link n a r) (link-in n a r l .0) (link-in n a r l .1);
     }
 
 -- ---- names stay linked where the heads, the links and the names are kept
@@ -89,10 +88,10 @@ link-kept w v n a false p q = p
 
 module _ {w : List ℕ} (v : List ℕ) {n m : ℕ} {x : ℕ → List ℕ} (h : Linked w n m x) (some : 0 < n) (few : m ≤ n)
     (buckets : (b : ℕ) → b < n → word v (bucket-cell n b) ≡ word w (bucket-cell n b))
-    (rows : (a : ℕ) (r : Bool) → a < n → word v (link n a r) ≡ word w (link n a r)) where
+    (rows : (a : ℕ) (r : Bool) → a < m → word v (link n a r) ≡ word w (link n a r)) where
   place-kept : {c : ℕ} → Place n m c → word v c ≡ word w c
   place-kept (at-head b k q) = rw q (buckets b k)
-  place-kept (at-link a r k q) = rw q (rows a r (omega arith))
+  place-kept (at-link a r k q) = rw q (rows a r k)
 
   pub way-same : (s : List ℕ) (d : ℕ) → ((e : ℕ) → e < d → word w (way w n s e) ≢ 0) → way v n s d ≡ way w n s d
   unfolding way
@@ -119,9 +118,8 @@ module _ {w : List ℕ} (v : List ℕ) {n m : ℕ} {x : ℕ → List ℕ} (h : L
         passes = λ a d k l.
             rw (names a k) (λ q. h .passes a d k l (sym (word-kept (x a) d (λ e g. h .passes a e k (omega arith))) ∙ q));
         heads = λ b k. rw (buckets b k) (h .heads b k);
-        links = λ a r k. rw (rows a r (omega arith)) (h .links a r k);
-        later = λ a r k. rw (rows a r (omega arith)) (h .later a r k);
-        free = λ a r k l. rows a r l ∙ h .free a r k l;
+        links = λ a r k. rw (rows a r k) (h .links a r k);
+        later = λ a r k. rw (rows a r k) (h .later a r k);
       }
 
 -- ---- which words a place is not
@@ -153,13 +151,13 @@ module _ {n m c : ℕ} (few : m ≤ n) where
 pub head-in : (n : ℕ) (s : List ℕ) → 0 < n → head-by n (hash s) < 15 * n
 head-in n s h = place-high {m = 0} (omega arith) (at-bucket n 0 s h)
 
--- a place is no link of a later row
-not-later : {n m c : ℕ} → Place n m c → (a : ℕ) (r : Bool) → m ≤ a → a < n → link n a r ≢ c
-not-later {n} {m} {c} (at-head b k q) a r l f e = from-head n b a r k f (sym q ∙ sym e)
-not-later {n} {m} {c} (at-link i u k q) a r l f e = apart n i a u r (omega arith) f (sym q ∙ sym e)
+-- a place is no link of the next row
+not-later : {n m c : ℕ} → Place n m c → (r : Bool) → m < n → link n m r ≢ c
+not-later {n} {m} {c} (at-head b k q) r f e = from-head n b m r k f (sym q ∙ sym e)
+not-later {n} {m} {c} (at-link i u k q) r f e = apart n i m u r k f (sym q ∙ sym e)
 
--- ---- the name in row m is put at the empty link where the search for it ends
-module _ (w v : List ℕ) (n m : ℕ) (x : ℕ → List ℕ) (h : Linked w n m x) (few : m < n) (d : ℕ) (y : Ends w n (x m) d)
+-- ---- the name in row m, from which no link leads, is put at the empty link where the search for it ends
+module _ (w v : List ℕ) (n m : ℕ) (x : ℕ → List ℕ) (h : Linked w n m x) (few : m < n) (free : (r : Bool) → word w (link n m r) ≡ 0) (d : ℕ) (y : Ends w n (x m) d)
     (same : (i : ℕ) → i ≢ way w n (x m) d → word v i ≡ word w i) (put : word v (way w n (x m) d) ≡ m + 1) where
   place : Place n m (way w n (x m) d)
   place = place-of h (omega arith) (x m) d (y .passed)
@@ -213,7 +211,7 @@ module _ (w v : List ℕ) (n m : ℕ) (x : ℕ → List ℕ) (h : Linked w n m x
 
   -- the links of row m are still empty
   own : (r : Bool) → word v (link n m r) ≡ 0
-  own r = same (link n m r) (not-later place m r (omega arith) few) ∙ h .free m r (omega arith) few
+  own r = same (link n m r) (not-later place r few) ∙ free r
 
   links-at : (a : ℕ) (r : Bool) → a < m + 1 → word v (link n a r) ≤ m + 1
   links-at a r k =
@@ -238,5 +236,4 @@ module _ (w v : List ℕ) (n m : ℕ) (x : ℕ → List ℕ) (h : Linked w n m x
         heads = λ b k. either (bucket-cell n b) (λ z. z ≤ m + 1) (omega (arith, h .heads b k)) (omega arith);
         links = links-at;
         later = later-at;
-        free = λ a r k l. same (link n a r) (not-later place a r (omega arith) l) ∙ h .free a r (omega arith) l;
       }

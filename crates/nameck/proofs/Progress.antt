@@ -6,9 +6,9 @@ use mathlib.Core.Bool.{true, false}
 use mathlib.Core.List.{List, [], _∷_, _++_, append-assoc}
 use Prim.Native.Nat.{ℕ, _+_, _-_, _<_, _≤_}
 use native.Mathlib.Omega.{arith}
-use lib.Dec.{eqb}
+use lib.Dec.{eqb, ltb}
 use lib.ListN.{length, getD, take, drop, set}
-use borrow.Author.Tests.{eqb-true}
+use borrow.Author.Tests.{eqb-true, ltb-true, ltb-false}
 use Rattle.paper.specs.Base.{gather}
 use Rattle.paper.specs.Statements.{labelled, Statement}
 use Rattle.paper.specs.Variables.{member, see, sights, index}
@@ -55,14 +55,14 @@ pub names-kept : (t w v : List ℕ) (n m : ℕ) → ((a c : ℕ) → a < m → c
 names-kept t w v n m k =
     names-same t w v n m (λ a g. name-same t w v n a (k a 0 g (omega arith)) (k a 1 g (omega arith)))
 
-pub blank-kept : {w v : List ℕ} {n : ℕ} → ((a c : ℕ) → a < n → 5 ≤ c → c < 7 → word v (symbol-cell n a c) ≡ word w (symbol-cell n a c)) → Blank w n → Blank v n
+pub blank-kept : {w v : List ℕ} {n m : ℕ} → ((a c : ℕ) → a < m → 5 ≤ c → c < 7 → word v (symbol-cell n a c) ≡ word w (symbol-cell n a c)) → Blank w n m → Blank v n m
 blank-kept e h = record { symbols = λ a c g k b. e a c g k b ∙ h .symbols a c g k b }
 
 -- a write that keeps the names, the buckets and the symbols' word 2
 pub links-kept : {t w v : List ℕ} {n m : ℕ} {x : Done} → Progress t w n x m → ((a c : ℕ) → a < n → c < 3 → word v (name-cell n a c) ≡ word w (name-cell n a c)) → ((b : ℕ) → b < n → word v (bucket-cell n b) ≡ word w (bucket-cell n b)) → ((a : ℕ) → a < n → word v (symbol-cell n a 2) ≡ word w (symbol-cell n a 2)) → Linked v n m (name-at t v n)
 links-kept {t} {w} {v} {n} {m} h f g k =
     linked-kept v (h .linked) (omega (arith, h .text .few)) (h .spans .rows) g
-    (λ a r l. link-kept w v n a r (f a 2 l (omega arith)) (k a l))
+    (λ a r l. link-kept w v n a r (f a 2 (omega (arith, h .spans .rows)) (omega arith)) (k a (omega (arith, h .spans .rows))))
     (λ a l. name-same t w v n a (f a 0 (omega (arith, h .spans .rows)) (omega arith)) (f a 1 (omega (arith, h .spans .rows)) (omega arith)))
 
 -- ---- names that come next are among all names
@@ -127,9 +127,20 @@ module _ {t w v : List ℕ} {n m start stop atom r : ℕ} {x : Done} (h : Progre
 
   column-now : (c : ℕ) (f : List ℕ → ℕ) → c < 2 → Column w n c (sights (x .names) []) f → Column v n c (sights (x .names ++ (b ∷ [])) []) f
   column-now c f k z =
-      column-kept few-names (λ i g. y .symbols i c g (omega arith) (λ q. omega (arith, q)))
-      (let q : sights (x .names ++ (b ∷ [])) [] ≡ see (sights (x .names) []) b = sights-one (x .names) b [] in
-      rw q (column-see b (rw q at few-names) z))
+      let q : sights (x .names ++ (b ∷ [])) [] ≡ see (sights (x .names) []) b = sights-one (x .names) b [] in
+      rw q
+      (column-see b (λ i g. y .symbols i c (omega (arith, progress-count h)) (omega arith) (λ p. omega (arith, p)))
+      (λ i g l. y .blank i c (omega (arith, progress-count h)) (omega (arith, count-now, ap length q)) (omega arith) (λ p. omega (arith, p))) z)
+
+  -- the words of a new name are 0, as those of the names before it
+  blank-now : Blank v n r
+  blank-now =
+      record {
+        symbols = λ i c g k l.
+            split (ltb i m)
+            (λ p. let u : i < m = ltb-true i m p in y .symbols i c u l (λ s. omega (arith, s)) ∙ h .blank .symbols i c u k l)
+            (λ p. let u : m ≤ i = ltb-false i m p in y .blank i c u g l (λ s. omega (arith, s)));
+      }
 
   pub progress-intern : Progress t v n (seen x b) r
   progress-intern =
@@ -150,7 +161,7 @@ module _ {t w v : List ℕ} {n m start stop atom r : ℕ} {x : Done} (h : Progre
         owners = column-now 0 (owner-by (x .bearers)) (omega arith) (h .owners);
         globals = column-now 1 (global-by (x .declared)) (omega arith) (h .globals);
         linked = y .linked;
-        blank = blank-kept (λ i c g k l. y .symbols i c g l (λ q. omega (arith, q))) (h .blank);
+        blank = blank-now;
       }
 
 -- ---- an atom for the next math token
@@ -204,7 +215,7 @@ module _ {t w : List ℕ} {n m : ℕ} {x : Done} (h : Progress t w n x m) {s i u
         owners = column-kept (omega (arith, progress-count h, h .spans .rows)) (λ a b. math-set .below (symbol-cell n a 0) (omega arith)) (h .owners);
         globals = column-kept (omega (arith, progress-count h, h .spans .rows)) (λ a b. math-set .below (symbol-cell n a 1) (omega arith)) (h .globals);
         linked = links-kept h (λ a c b d. math-set .below (name-cell n a c) (omega arith)) (λ a b. math-set .below (bucket-cell n a) (omega arith)) (λ a b. math-set .below (symbol-cell n a 2) (omega arith));
-        blank = blank-kept (λ a c b d f. math-set .below (symbol-cell n a c) (omega arith)) (h .blank);
+        blank = blank-kept (λ a c b d f. math-set .below (symbol-cell n a c) (omega (arith, h .spans .rows))) (h .blank);
       }
 
 -- ---- an atom for the next label

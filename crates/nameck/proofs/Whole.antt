@@ -163,13 +163,8 @@ module _ {t w : List ℕ} {n rows : ℕ} {l : List Statement} (h : Readable t w 
   unfolding tokens tokens-from
   few-tokens = omega (arith, tokens-few t 0)
 
-  empty-column : (c : ℕ) (f : List ℕ → ℕ) → c < 7 → ((y : List ℕ) → f y ≡ 0) → Column w n c [] f
-  empty-column c f k z =
-      record {
-        holds = λ a g. absurd (not-suc-le-zero g);
-        blank = λ a g b. h .rows-of .between (symbol-cell n a c) (omega (arith, h .rows-of .shape .few)) (omega arith);
-        unseen = λ y e. z y;
-      }
+  empty-column : (c : ℕ) (f : List ℕ → ℕ) → ((y : List ℕ) → f y ≡ 0) → Column w n c [] f
+  empty-column c f z = record { holds = λ a g. absurd (not-suc-le-zero g); unseen = λ y e. z y }
 
   begin : Progress t w n (before-statement l 0) 0
   unfolding before gather names-of sights labels declared find
@@ -194,10 +189,10 @@ module _ {t w : List ℕ} {n rows : ℕ} {l : List Statement} (h : Readable t w 
           within = λ a g. absurd (not-suc-le-zero g);
         };
         names = refl;
-        owners = empty-column 0 _ (omega arith) (λ y. refl);
-        globals = empty-column 1 _ (omega arith) (λ y. refl);
-        linked = none-linked (λ i g k. r .between i (omega (arith, r .shape .few)) k);
-        blank = record { symbols = λ a c g k b. r .between (symbol-cell n a c) (omega (arith, r .shape .few)) (omega arith) };
+        owners = empty-column 0 _ (λ y. refl);
+        globals = empty-column 1 _ (λ y. refl);
+        linked = none-linked (r .buckets);
+        blank = record { symbols = λ a c g. absurd (not-suc-le-zero g) };
       }
 
 -- ---- at the end all are
@@ -267,7 +262,7 @@ module _ {t w : List ℕ} {n m : ℕ} {l : List Statement} (h : Progress t w n (
   end-fresh : Fresh w n l
   end-fresh =
       record {
-        symbols = λ a c g k b. h .blank .symbols a c (omega (arith, h .text .few)) (omega arith) b;
+        symbols = λ a c g k b. h .blank .symbols a c (omega (arith, count-all)) k b;
       }
 
 -- ---- the walk over the statements: s of them are named

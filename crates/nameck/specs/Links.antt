@@ -44,7 +44,6 @@ pub record Linked (w : List ℕ) (n m : ℕ) (x : ℕ → List ℕ) : Type 0 whe
   pub heads : (b : ℕ) → b < n → word w (bucket-cell n b) ≤ m
   pub links : (a : ℕ) (r : Bool) → a < m → word w (link n a r) ≤ m
   pub later : (a : ℕ) (r : Bool) → a < m → word w (link n a r) ≢ 0 → a + 1 < word w (link n a r)
-  pub free : (a : ℕ) (r : Bool) → m ≤ a → a < n → word w (link n a r) ≡ 0
 
 -- the search for s ends at depth d, at an empty link
 pub record Ends (w : List ℕ) (n : ℕ) (s : List ℕ) (d : ℕ) : Type 0 where

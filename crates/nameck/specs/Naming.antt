@@ -73,10 +73,9 @@ with-math x k m =
     }
 
 -- ---- what the words say of it
--- word c of the symbols: f of the name for each name, and 0 after them; f is 0 for any other name
+-- word c of the symbols: f of the name for each name; f is 0 for any other name
 pub record Column (w : List ℕ) (n c : ℕ) (l : List (List ℕ)) (f : List ℕ → ℕ) : Type 0 where
   pub holds : (a : ℕ) → a < length l → word w (symbol-cell n a c) ≡ f (getD l a [])
-  pub blank : (a : ℕ) → length l ≤ a → a < n → word w (symbol-cell n a c) ≡ 0
   pub unseen : (y : List ℕ) → member y l ≡ false → f y ≡ 0
 
 abbrev pub owner-by : List Token → List ℕ → ℕ
@@ -108,9 +107,9 @@ pub record Maths (w : List ℕ) (n : ℕ) (l : List Statement) (p : ℕ) : Type 
       (s i : ℕ) → s < length l → i < length (stmt l s .math) → p ≤ before l s + i
       → word w (math-cell n (before l s + i)) ≡ token (stmt l s) i .at
 
--- the words that naming leaves 0
-pub record Blank (w : List ℕ) (n : ℕ) : Type 0 where
-  pub symbols : (a c : ℕ) → a < n → 5 ≤ c → c < 7 → word w (symbol-cell n a c) ≡ 0
+-- the words of m names that naming leaves 0
+pub record Blank (w : List ℕ) (n m : ℕ) : Type 0 where
+  pub symbols : (a c : ℕ) → a < m → 5 ≤ c → c < 7 → word w (symbol-cell n a c) ≡ 0
 
 -- x is done, with m names
 pub record Progress (t w : List ℕ) (n : ℕ) (x : Done) (m : ℕ) : Type 0 where
@@ -123,7 +122,7 @@ pub record Progress (t w : List ℕ) (n : ℕ) (x : Done) (m : ℕ) : Type 0 whe
   pub linked : Linked w n m (name-at t w n)
   pub owners : Column w n 0 (sights (x .names) []) (owner-by (x .bearers))
   pub globals : Column w n 1 (sights (x .names) []) (global-by (x .declared))
-  pub blank : Blank w n
+  pub blank : Blank w n m
 
 -- the names b come next
 pub record Ahead (x : Done) (b : List (List ℕ)) : Type 0 where

@@ -8,7 +8,7 @@ use lib.Dec.{eqb}
 use lib.ListN.{length, take, drop, set}
 use Rattle.paper.specs.Base.{choose}
 use Rattle.paper.specs.Variables.{member, see, index}
-use Rattle.area.specs.Cells.{name-cell, symbol-cell, word, Only}
+use Rattle.area.specs.Cells.{name-cell, symbol-cell, word, Only, Cleared}
 use Rattle.nameck.specs.Links.{Linked}
 
 -- the name in the a-th row, and the first m names
@@ -32,11 +32,16 @@ pub record Spans (t w : List ℕ) (n m : ℕ) : Type 0 where
   pub start-stop : (a : ℕ) → a < m → word w (name-cell n a 0) ≤ word w (name-cell n a 1)
   pub within : (a : ℕ) → a < m → word w (name-cell n a 1) ≤ length t
 
--- a row for a new name
+-- a row for a new name, from which no link leads
 unfoldable pub with-name : List ℕ → ℕ → ℕ → ℕ → ℕ → List ℕ
-with-name w n m start stop = set (set w (name-cell n m 0) start) (name-cell n m 1) stop
+with-name w n m start stop = set (set (set w (name-cell n m 0) start) (name-cell n m 1) stop) (name-cell n m 2) 0
 
--- a name looked for, and added if it is new. Only the blocks of names and buckets change, and word 2 of the symbols
+-- the row is made, and the words of its symbol are 0
+pub record Adds (w v : List ℕ) (n m start stop : ℕ) : Type 0 where
+  pub cleared : Cleared (symbol-cell n m 0) (symbol-cell n m 7) (with-name w n m start stop) v
+
+-- a name looked for, and added if it is new. Only the blocks of names and buckets change, word 2 of the symbols, and the
+-- words of a new name, which are 0
 pub record CanIntern (t w : List ℕ) (n m start stop : ℕ) : Type 0 where
   pub spans : Spans t w n m
   pub linked : Linked w n m (name-at t w n)
@@ -46,7 +51,8 @@ pub record CanIntern (t w : List ℕ) (n m start stop : ℕ) : Type 0 where
 
 pub record Interns (t w v : List ℕ) (n m start stop atom k : ℕ) : Type 0 where
   pub only : Only (4 * n) (15 * n) w v
-  pub symbols : (a c : ℕ) → a < n → c < 7 → c ≢ 2 → word v (symbol-cell n a c) ≡ word w (symbol-cell n a c)
+  pub symbols : (a c : ℕ) → a < m → c < 7 → c ≢ 2 → word v (symbol-cell n a c) ≡ word w (symbol-cell n a c)
+  pub blank : (a c : ℕ) → m ≤ a → a < k → c < 7 → c ≢ 2 → word v (symbol-cell n a c) ≡ 0
   pub linked : Linked v n k (name-at t v n)
   pub names : names-of t v n k ≡ see (names-of t w n m) (take (stop - start) (drop start t))
   pub atom-is : atom ≡ index (names-of t v n k) (take (stop - start) (drop start t))

@@ -6,7 +6,7 @@ ghost use mathlib.Core.Path.{_≡_};
 ghost use Prim.Native.Nat.{_+_, _-_, _*_, _<_, _≤_};
 ghost use lib.ListN.{length, take, drop};
 ghost use Rattle.paper.specs.Base.{sameb};
-ghost use Rattle.nameck.specs.Table.{name-at, names-of, found, Spans, with-name, CanIntern, Interns};
+ghost use Rattle.nameck.specs.Table.{name-at, names-of, found, Spans, Adds, CanIntern, Interns};
 ghost use Rattle.nameck.specs.Links.{hash, head-by, fork, link, Linked, Ended};
 
 // the word of a name that is its left link while naming; the right link is the symbol's NESTED
@@ -121,13 +121,16 @@ pub fn find(text: &[u8], work: &[u32], n: usize, names: usize, s: &[u8], h: u64)
     Place { row: 0, cell: cell }
 }
 
-/// Makes the row of a new name.
+/// Makes the row of a new name: no link leads from it, and the words of its symbol are 0.
 pub fn add_name(work: &mut [u32], n: usize, row: usize, start: usize, stop: usize)
     requires { ⌜ (n < 4294967296) × (row < n) × (16 * n ≤ length (now work)) × (start < 4294967296) × (stop < 4294967296) ⌝ }
-    ensures { λ r. ⌜ now (work .exit) ≡ with-name (now (work .entry)) n row start stop ⌝ }
+    ensures { λ r. ⌜ Adds (now (work .entry)) (now (work .exit)) n row start stop ⌝ }
 {
     work[area::name(n, row, area::START)] = start as u32;
     work[area::name(n, row, area::STOP)] = stop as u32;
+    work[area::name(n, row, LEFT)] = 0;
+    let first = area::symbol(n, row, area::OWNER);
+    area::clear_part(work, first, first + 7);
 }
 
 /// The atom of the name from `start` to `stop`, whose hash is h, made anew if no earlier name has its bytes.

@@ -9,7 +9,7 @@ use native.Mathlib.Nat.{le-refl, not-suc-le-zero}
 use native.Mathlib.Numerals.{add-one}
 use native.Mathlib.Omega.{arith}
 use lib.Dec.{ltb}
-use lib.ListN.{length, getD, take, drop, set, replicate, length-append, length-set, take-append-drop, List·getD-append, getD-replicate, length-replicate, List·getD-eq-default}
+use lib.ListN.{length, getD, take, drop, set, length-append, length-set, take-append-drop, List·getD-append}
 use lib.Seq.{take-suc, take-at, take-append-le, take-length, getD-at, length-sets}
 use borrow.Author.Tests.{ltb-true, ltb-false}
 use Rattle.paper.specs.Base.{gather}
@@ -18,7 +18,7 @@ use Rattle.paper.specs.Comments.{outside, visible}
 use Rattle.paper.specs.Statements.{Kind, labelled, Statement, none-end, Item, states}
 use Rattle.paper.proofs.Tests.{split}
 use Rattle.paper.proofs.Lists.{gather-append}
-use Rattle.area.specs.Cells.{statement-cell, bucket-cell, math-cell, word}
+use Rattle.area.specs.Cells.{statement-cell, bucket-cell, math-cell, word, Cleared}
 use Rattle.area.proofs.Laws.{word-same, word-other}
 use Rattle.token.specs.Words.{tokens-from}
 use Rattle.token.proofs.Parts.{part-tokens}
@@ -101,7 +101,6 @@ row-same {t} {w} {v} {n} {s} {x} {m} h e f =
       first = e 5 (omega arith) (λ q. omega (arith, q)) ∙ h .first;
       count = e 6 (omega arith) (λ q. omega (arith, q)) ∙ h .count;
       part = rw (e₃, e₄) (h .part);
-      rest = λ c a b. e c b (λ q. omega (arith, q)) ∙ h .rest c a b;
       bears = h .bears;
       math = λ k l. f k l ∙ h .math k l;
       stands = h .stands;
@@ -142,9 +141,6 @@ module _ {t w u : List ℕ} {n : ℕ} {i : List Item} {rows maths items most sto
   mid-cell : (c : ℕ) → 12 * rows + 7 ≤ c → c < 15 * n + maths → word after-row c ≡ word w c
   mid-cell c a b = beyond c a ∙ r .only .below c b
 
-  high-cell : (c : ℕ) → 15 * n + (maths + count) ≤ c → word after-row c ≡ word w c
-  high-cell c a = beyond c (omega arith) ∙ r .only .above c a
-
   after-len : length after-row ≡ length w
   unfolding with-row
   after-len = length-sets u (statement-cell rows 0) row-words ∙ r .only .len
@@ -162,7 +158,6 @@ module _ {t w u : List ℕ} {n : ℕ} {i : List Item} {rows maths items most sto
         first = in-row 5 (omega arith);
         count = in-row 6 (omega arith) ∙ sym (r .counted);
         part = rw (e₃, e₄) (part-shows (r .passed) (r .onward) (r .within) (r .gap));
-        rest = λ c a b. mid-cell (statement-cell rows c) (omega arith) (omega arith) ∙ h .blank (statement-cell rows c) (omega arith) (omega arith);
         bears = eb;
         math = λ j l. beyond (math-cell n (maths + j)) (omega arith) ∙ r .stored j l;
         stands = r .stand;
@@ -213,9 +208,7 @@ module _ {t w u : List ℕ} {n : ℕ} {i : List Item} {rows maths items most sto
         fewer = omega (arith, h .fewer);
         kept = rw more kept-more;
         events = event-more;
-        blank = λ c a b. mid-cell c (omega arith) (omega arith) ∙ h .blank c (omega arith) b;
         fresh = λ c a b. mid-cell c (omega arith) (omega arith) ∙ h .fresh c (omega arith) b;
-        above = λ c a. high-cell c a ∙ h .above c (omega arith);
       }
 
 -- ---- `${` or `$}`: a word in the bucket column, and no row
@@ -258,24 +251,16 @@ module _ {t w v : List ℕ} {n : ℕ} {i : List Item} {rows maths items : ℕ} (
         fewer = omega (arith, h .fewer);
         kept = rw same same-row;
         events = event-one;
-        blank = λ c a b. other-cell c (λ q. omega (arith, q)) ∙ h .blank c a b;
         fresh = λ c a b. other-cell c (λ q. omega (arith, q)) ∙ h .fresh c (omega arith) b;
-        above = λ c a. other-cell c (λ q. omega (arith, q)) ∙ h .above c a;
       }
 
--- ---- no item yet: every word is 0
-zero-word : (m c : ℕ) → word (replicate m 0) c ≡ 0
-unfolding word
-zero-word m c =
-    split (ltb c m) (λ e. getD-replicate m c 0 0 (ltb-true c m e))
-    (λ e. List·getD-eq-default (replicate m 0) 0 (omega (arith, ltb-false c m e, length-replicate {A = ℕ} m 0)))
-
-pub words-start : (t w : List ℕ) (n m : ℕ) → n ≡ length (tokens t) + 1 → 16 * n ≤ length w → length t ≤ 16777216 → w ≡ replicate m 0 → Words t w n [] 0 0 0
+-- ---- no item yet: the bucket column is 0
+pub words-start : {t w v : List ℕ} {n : ℕ} → n ≡ length (tokens t) + 1 → 16 * n ≤ length w → length t ≤ 16777216 → Cleared (7 * n) (8 * n) w v → Words t v n [] 0 0 0
 unfolding stated gather before
-words-start t w n m a b d e =
+words-start a b d e =
     record {
       size = a;
-      room = b;
+      room = omega (arith, b, e .only .len);
       short = d;
       stated-rows = refl;
       all-maths = refl;
@@ -284,7 +269,5 @@ words-start t w n m a b d e =
       fewer = le-refl 0;
       kept = λ s l. absurd (not-suc-le-zero l);
       events = λ j l. absurd (not-suc-le-zero l);
-      blank = λ c p q. rw e (zero-word m c);
-      fresh = λ c p q. rw e (zero-word m c);
-      above = λ c p. rw e (zero-word m c);
+      fresh = λ c p q. e .zeros c (omega arith) q;
     }

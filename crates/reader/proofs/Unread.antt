@@ -7,7 +7,7 @@ use mathlib.Core.Option.{Option, none, some}
 use Prim.Native.Nat.{ℕ, suc, _+_, _*_, _<_, _≤_}
 use native.Mathlib.Omega.{arith}
 use lib.Dec.{ltb}
-use lib.ListN.{length, replicate, length-replicate}
+use lib.ListN.{length, replicate}
 use borrow.Author.Tests.{lt-ltb, le-ltb}
 use Rattle.paper.specs.Base.{or}
 use Rattle.paper.specs.Bytes.{white, printable}
@@ -22,6 +22,7 @@ use Rattle.token.specs.Count.{bad-of, count-of}
 use Rattle.token.specs.declared.cursor.Cursor.{Cursor}
 use Rattle.token.specs.declared.count.Counted.{Counted}
 use Rattle.token.specs.declared.count.Bad.the-variants.{At, Nowhere}
+use Rattle.area.specs.Cells.{Cleared}
 use Rattle.reader.specs.Kept.{Words}
 use Rattle.reader.specs.Whole.{TextRead, Reads}
 use Rattle.reader.proofs.Keeping.{words-start}
@@ -50,15 +51,16 @@ bad-inside t {x} {p} e q =
 pub counted-tokens : (t : List ℕ) {x : Counted} → x ≡ count-of t → x .tokens ≡ length (tokens t)
 counted-tokens t e = ap (λ (y : Counted). y .tokens) e
 
-module _ (t w : List ℕ) {v : List ℕ} (z : v ≡ replicate (length w) 0) where
-  pub read-long : 16777216 < length t → Reads t w v (Unread LongText 0)
+module _ (t w : List ℕ) where
+  -- a refusal, where every word is 0
+  pub read-long : {v : List ℕ} → v ≡ replicate (length w) 0 → 16777216 < length t → Reads t w v (Unread LongText 0)
   unfolding reading
-  read-long h = rw (lt-ltb 16777216 (length t) h) (refl, z)
+  read-long z h = rw (lt-ltb 16777216 (length t) h) (refl, z)
 
   module _ (h : length t ≤ 16777216) {x : Counted} (e : x ≡ count-of t) where
-    pub read-short : length w < 16 * (x .tokens + 1) → Reads t w v (Unread (ShortWork (16 * (x .tokens + 1))) 0)
+    pub read-short : {v : List ℕ} → v ≡ replicate (length w) 0 → length w < 16 * (x .tokens + 1) → Reads t w v (Unread (ShortWork (16 * (x .tokens + 1))) 0)
     unfolding reading words
-    read-short l =
+    read-short z l =
         let q = counted-tokens t e in
         rw (q, le-ltb 16777216 (length t) h, lt-ltb (length w) (16 * (length (tokens t) + 1)) (omega (arith, l, q))) (refl, z)
 
@@ -66,20 +68,19 @@ module _ (t w : List ℕ) {v : List ℕ} (z : v ≡ replicate (length w) 0) wher
       fits : ltb (length w) (16 * (length (tokens t) + 1)) ≡ false
       fits = let q = counted-tokens t e in le-ltb (length w) (16 * (length (tokens t) + 1)) (omega (arith, l, q))
 
-      pub read-bad : (p : ℕ) → x .bad ≡ At p → {c : Cursor} → c .at ≡ p → Lined t c → Reads t w v (Unread (BadByte p) (c .line))
+      pub read-bad : {v : List ℕ} → v ≡ replicate (length w) 0 → (p : ℕ) → x .bad ≡ At p → {c : Cursor} → c .at ≡ p → Lined t c
+          → Reads t w v (Unread (BadByte p) (c .line))
       unfolding reading words
-      read-bad p q {c} o y =
+      read-bad z p q {c} o y =
           let b : bad-from t 0 ≡ some p = bad-some (bad-from t 0) p (sym (ap (λ (y : Counted). y .bad) e) ∙ q) in
           rw (le-ltb 16777216 (length t) h, fits, b, y, o) (refl, z)
 
-      pub read-begin : Words t v (x .tokens + 1) [] 0 0 0
-      read-begin =
-          let q = counted-tokens t e in
-          words-start t v (x .tokens + 1) (length w) (rw q refl) (omega (arith, l, ap length z, length-replicate {A = ℕ} (length w) 0)) h z
+      module _ {v : List ℕ} (z : Cleared (7 * (x .tokens + 1)) (8 * (x .tokens + 1)) w v) where
+        pub read-begin : Words t v (x .tokens + 1) [] 0 0 0
+        read-begin = let q = counted-tokens t e in words-start (rw q refl) l h z
 
-      pub read-good : (u : List ℕ) (r : Reading) → x .bad ≡ Nowhere → TextRead t v u (x .tokens + 1) r → Reads t w u r
-      unfolding reading words
-      read-good u r q d =
-          let b : bad-from t 0 ≡ none = bad-none (bad-from t 0) (sym (ap (λ (y : Counted). y .bad) e) ∙ q) in
-          let k : length v ≡ length w = ap length z ∙ length-replicate {A = ℕ} (length w) 0 in
-          rw (le-ltb 16777216 (length t) h, fits, b) (rw k at d)
+        pub read-good : (u : List ℕ) (r : Reading) → x .bad ≡ Nowhere → TextRead t v u (x .tokens + 1) r → Reads t w u r
+        unfolding reading words
+        read-good u r q d =
+            let b : bad-from t 0 ≡ none = bad-none (bad-from t 0) (sym (ap (λ (y : Counted). y .bad) e) ∙ q) in
+            rw (le-ltb 16777216 (length t) h, fits, b) (rw (z .only .len) at d)

@@ -18,7 +18,7 @@ use Rattle.paper.specs.declared.Reading.the-variants.{Read, Unread}
 use Rattle.paper.specs.declared.Refusal.{Refusal}
 use Rattle.paper.specs.declared.Refusal.the-variants.{OpenText}
 use Rattle.paper.proofs.Tests.{split}
-use Rattle.area.specs.Cells.{statement-cell, math-cell, word, Cleared}
+use Rattle.area.specs.Cells.{statement-cell, bucket-cell, math-cell, word, Cleared}
 use Rattle.reader.specs.Rows.{stmt, before, Shape, Rows}
 use Rattle.reader.specs.Passed.{Passed, RefusedAt}
 use Rattle.reader.specs.Kept.{stated, Row, Words}
@@ -95,7 +95,6 @@ row-ended q h =
       first = h .first;
       count = h .count;
       part = h .part;
-      rest = h .rest;
       bears = h .bears;
       math = h .math;
       stands = h .stands;
@@ -151,33 +150,17 @@ module _ {t w : List ℕ} {n : ℕ} {s : State} (f : Finished t w n s) where
     all-maths : before all (length all) ≡ s .maths
     all-maths = rw count (ends-before (f .found) [] (s .rows) ∙ f .words .all-maths)
 
-    -- the item words and the stack are cleared, and what stands around them was 0
-    beside : (i : ℕ) → 7 * n ≤ i → i < 15 * n → word v i ≡ 0
-    beside i a b =
-        let few = f .items-few in
-        split (ltb i (7 * n + s .items))
+    -- the item words are cleared, and what stands after them was 0
+    buckets : (b : ℕ) → b < n → word v (bucket-cell n b) ≡ 0
+    buckets b a =
+        split (ltb b (s .items))
         (λ q.
-        let l : i < 7 * n + s .items = ltb-true i (7 * n + s .items) q in
-        c₂ .only .below i (omega arith) ∙ c₁ .zeros i a l)
+        let l : b < s .items = ltb-true b (s .items) q in
+        c₂ .only .below (bucket-cell n b) (omega arith) ∙ c₁ .zeros (bucket-cell n b) (omega arith) (omega arith))
         (λ q.
-        let l : 7 * n + s .items ≤ i = ltb-false i (7 * n + s .items) q in
-        split (ltb i (8 * n))
-        (λ p.
-        let m : i < 8 * n = ltb-true i (8 * n) p in
-        c₂ .only .below i m ∙ c₁ .only .above i l ∙ e .aside .rest i (omega (arith, f .few)) m ∙ f .words .fresh i l b)
-        (λ p.
-        let m : 8 * n ≤ i = ltb-false i (8 * n) p in
-        split (ltb i (8 * n + s .items))
-        (λ r. c₂ .zeros i m (ltb-true i (8 * n + s .items) r))
-        (λ r. high i (ltb-false i (8 * n + s .items) r) ∙ f .words .fresh i l b)))
-
-    between : (i : ℕ) → 12 * length all ≤ i → i < 15 * n → word v i ≡ 0
-    between i a b =
-        split (ltb i (7 * n))
-        (λ q.
-        let l : i < 7 * n = ltb-true i (7 * n) q in
-        low i l ∙ e .aside .rest i (omega (arith, count)) (omega arith) ∙ f .words .blank i (omega (arith, count)) l)
-        (λ q. beside i (ltb-false i (7 * n) q) b)
+        let l : s .items ≤ b = ltb-false b (s .items) q in
+        c₂ .only .below (bucket-cell n b) (omega arith) ∙ c₁ .only .above (bucket-cell n b) (omega arith)
+        ∙ e .aside .rest (bucket-cell n b) (omega (arith, f .few)) (omega arith) ∙ f .words .fresh (bucket-cell n b) (omega arith) (omega arith))
 
     shape : Shape t v n all
     shape =
@@ -205,9 +188,7 @@ module _ {t w : List ℕ} {n : ℕ} {s : State} (f : Finished t w n s) where
           bears = λ r l. row r l .bears;
           math = λ r j l. row r l .math j;
           stands = λ r j l. row r l .stands j;
-          statement-rest = λ r o l. row r l .rest o;
-          between = between;
-          above = λ i l. high i (omega (arith, f .items-few)) ∙ f .words .above i (omega (arith, all-maths));
+          buckets = buckets;
         }
 
     pub text-read : (m : ℕ) → length v ≡ m → Answers t v m (with-ends (items (tokens t) (length t))) (Read (s .rows) (s .maths))

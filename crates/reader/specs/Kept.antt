@@ -47,7 +47,6 @@ pub record Row (t w : List ℕ) (n s : ℕ) (x : Statement) (m : ℕ) : Type 0 w
   pub part :
       visible (toks (take (word w (statement-cell s 4) - word w (statement-cell s 3)) (drop (word w (statement-cell s 3)) t)) (word w (statement-cell s 3))) outside
       ≡ x .math
-  pub rest : (c : ℕ) → 8 ≤ c → c < 12 → word w (statement-cell s c) ≡ 0
   pub bears : labelled (x .kind) ≡ true → Stands t (label-of x)
   pub math : (k : ℕ) → k < length (x .math) → word w (math-cell n (m + k)) ≡ token x k .at
   pub stands : (k : ℕ) → k < length (x .math) → Stands t (token x k)
@@ -63,9 +62,8 @@ pub record Words (t w : List ℕ) (n : ℕ) (i : List Item) (rows maths items : 
   pub fewer : rows ≤ items
   pub kept : (s : ℕ) → s < rows → Row t w n s (stmt (stated i) s) (before (stated i) s)
   pub events : (j : ℕ) → j < items → word w (bucket-cell n j) ≡ event (getD i j no-item)
-  pub blank : (c : ℕ) → 12 * rows ≤ c → c < 7 * n → word w c ≡ 0
-  pub fresh : (c : ℕ) → 7 * n + items ≤ c → c < 15 * n → word w c ≡ 0
-  pub above : (c : ℕ) → 15 * n + maths ≤ c → word w c ≡ 0
+  -- the words of the items to come
+  pub fresh : (c : ℕ) → 7 * n + items ≤ c → c < 8 * n → word w c ≡ 0
 
 -- one more row, with these words
 unfoldable pub with-row : List ℕ → ℕ → Head → ℕ → ℕ → ℕ → List ℕ

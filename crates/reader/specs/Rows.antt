@@ -10,7 +10,7 @@ use Rattle.paper.specs.Tokens.{Token, toks, tokens}
 use Rattle.paper.specs.Comments.{outside, visible}
 use Rattle.paper.specs.Statements.{Kind, $c, $v, $d, $f, $e, $a, $p, labelled, Statement}
 use Rattle.paper.specs.Checks.{token}
-use Rattle.area.specs.Cells.{statement-cell, math-cell, word}
+use Rattle.area.specs.Cells.{statement-cell, bucket-cell, math-cell, word}
 
 abbrev pub no-statement : Statement
 no-statement = record { kind = $c; at = 0; end = 0; label = []; math = []; proof = [] }
@@ -63,7 +63,7 @@ pub record Shape (t w : List ℕ) (n : ℕ) (l : List Statement) : Type 0 where
       → visible (toks (take (word w (statement-cell s 4) - word w (statement-cell s 3)) (drop (word w (statement-cell s 3)) t)) (word w (statement-cell s 3))) outside
       ≡ stmt l s .math
 
--- after reading: besides, the length of each label and the offset of each math token; every other word is 0
+-- after reading: besides, the length of each label and the offset of each math token; the bucket column is 0
 pub record Rows (t w : List ℕ) (n : ℕ) (l : List Statement) : Type 0 where
   pub shape : Shape t w n l
   pub label : (s : ℕ) → s < length l → word w (statement-cell s 2) ≡ length (stmt l s .label)
@@ -72,6 +72,4 @@ pub record Rows (t w : List ℕ) (n : ℕ) (l : List Statement) : Type 0 where
       (s i : ℕ) → s < length l → i < length (stmt l s .math)
       → word w (math-cell n (before l s + i)) ≡ token (stmt l s) i .at
   pub stands : (s i : ℕ) → s < length l → i < length (stmt l s .math) → Stands t (token (stmt l s) i)
-  pub statement-rest : (s c : ℕ) → s < length l → 8 ≤ c → c < 12 → word w (statement-cell s c) ≡ 0
-  pub between : (i : ℕ) → 12 * length l ≤ i → i < 15 * n → word w i ≡ 0
-  pub above : (i : ℕ) → 15 * n + before l (length l) ≤ i → word w i ≡ 0
+  pub buckets : (b : ℕ) → b < n → word w (bucket-cell n b) ≡ 0

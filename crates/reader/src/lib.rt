@@ -2,6 +2,7 @@
 // What it leaves there is said in `specs/Rows.antt`; that and the answer are all that the crates above see.
 use crate::whole::read_text;
 use area::clear;
+use area::clear_part;
 use paper::Reading;
 use paper::Refusal;
 use token::class::table;
@@ -23,23 +24,26 @@ pub mod whole;
 pub fn read(text: &[u8], work: &mut [u32]) -> Reading
     ensures { λ r. ⌜ Reads (now (text .entry)) (now (work .entry)) (now (work .exit)) r ⌝ }
 {
-    clear(work);
     if 16777216 < text.len() {
+        clear(work);
         return Reading::Unread(Refusal::LongText, 0);
     }
     let counted = count(text);
     let n = counted.tokens + 1;
     if work.len() < 16 * n {
+        clear(work);
         return Reading::Unread(Refusal::ShortWork((16 * n) as u64), 0);
     }
     let bad = counted.bad;
     match bad {
         Bad::At(p) => {
+            clear(work);
             let c = text_start().hop(text, p);
             Reading::Unread(Refusal::BadByte(p as u64), c.line)
         }
         Bad::Nowhere => {
             let classes = table();
+            clear_part(work, 7 * n, 8 * n);
             read_text(&classes, text, work, n)
         }
     }

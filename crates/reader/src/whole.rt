@@ -1,5 +1,5 @@
 // The whole text: every item, then the ends; the words that served only to find them are cleared.
-// The work area holds only zeros when the text is begun, and again when it is refused.
+// The bucket column holds only zeros when the text is begun, and every word is 0 when it is refused.
 use crate::end::set_ends;
 use crate::item::read_one;
 use crate::state::State;

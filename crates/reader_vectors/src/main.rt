@@ -27,20 +27,6 @@ fn write_refusal(x: Refusal) {
     }
 }
 
-fn write_answer(r: Reading) {
-    match r {
-        Reading::Read(s, m) => {
-            io::write_all(1, b"read ");
-            write_two(s as u64, m as u64);
-        }
-        Reading::Unread(x, line) => {
-            write_refusal(x);
-            io::write_all(1, b" ");
-            io::print_decimal(1, line);
-        }
-    }
-}
-
 fn write_word(cell: usize, word: u32) {
     if word != 0 {
         io::write_all(1, b" ");
@@ -59,8 +45,30 @@ fn write_words(work: &[u32]) {
     io::write_all(1, b"\n");
 }
 
+fn read_over_zeros(text: &[u8], work: &mut [u32]) {
+    area::clear(work);
+    reader::read(text, work);
+}
+
+// A text that is read is read again over zeros, so that no word is written but those that the reader leaves.
+fn write_answer(text: &[u8], work: &mut [u32], r: Reading) {
+    match r {
+        Reading::Read(s, m) => {
+            io::write_all(1, b"read ");
+            write_two(s as u64, m as u64);
+            read_over_zeros(text, work);
+        }
+        Reading::Unread(x, line) => {
+            write_refusal(x);
+            io::write_all(1, b" ");
+            io::print_decimal(1, line);
+        }
+    }
+}
+
 fn read_one(text: &[u8], work: &mut [u32]) {
-    write_answer(reader::read(text, work));
+    let r = reader::read(text, work);
+    write_answer(text, work, r);
     write_words(work);
 }
 

@@ -137,8 +137,8 @@ module _ {t w : List ℕ} {n : ℕ} {l : List Statement} {st : Scope} {k : ℕ} 
       pub part-counted : length (visible-from q 0) ≡ r .count
       part-counted = part-count ∙ sym (here-of .count)
 
-      pub walk-eap : Walk w n (st .diags) (r .first) (length (visible-from q 0)) × HasFloats w n (r .first) (length (visible-from q 0)) × Calm q
-      walk-eap = (rw part-counted walk-of, rw part-counted floats-of, part-calm)
+      pub walk-eap : Walk w n (st .diags) (r .first) (r .count) × HasFloats w n (r .first) (r .count) × (length (visible-from q 0) ≡ r .count) × Calm q
+      walk-eap = (walk-of, floats-of, part-counted, part-calm)
 
       pub here-part : HerePart t w q n l k (r .first) f (r .at .0)
       here-part =

@@ -152,7 +152,7 @@ pub fn scope_check_essential(
         let p = check_label(work, n, diags, st.diags, x.label, x.at);
         return move_to(st, p);
     };
-    let p = check_eap(part, work, n, diags, st.diags, x.first, x.at);
+    let p = check_eap(part, work, n, diags, st.diags, x.first, x.count, x.at);
     if p != st.diags {
         return move_to(st, p);
     }
@@ -181,6 +181,6 @@ pub fn scope_check_assert(
         let p = check_label(work, n, diags, st.diags, x.label, x.at);
         return move_to(st, p);
     };
-    let p = check_eap(part, work, n, diags, st.diags, x.first, x.at);
+    let p = check_eap(part, work, n, diags, st.diags, x.first, x.count, x.at);
     move_to(st, p)
 }

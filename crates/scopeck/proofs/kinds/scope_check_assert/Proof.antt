@@ -1,6 +1,6 @@
 use mathlib.Core.Path.{refl}
 use native.Mathlib.Omega.{arith}
-use Rattle.scopeck.proofs.Ready.{row-room, can-labelled, part-counted, walk-eap}
+use Rattle.scopeck.proofs.Ready.{row-room, can-labelled, walk-eap}
 use Rattle.scopeck.proofs.Labelled.{borne-at, later-bearer, asserted}
 use borrow.Author.Needs.{needs}
 use Rattle.scopeck.proofs.kinds.scope_check_assert.Statement.{statement}
@@ -47,7 +47,7 @@ same-length-2 : tie.Need-same-length-2
 same-length-2 c = search needs
 
 returns-2 : tie.Need-returns-2
-returns-2 c = asserted (c .before .before .before .before .before .before .before .before .read-row .ensures) (rw (part-counted (c .before .before .before .before .before .before .before .before .before .before .before .before .pre .0 .holds) (c .before .before .before .before .before .before .before .before .read-row .ensures) (c .before .before .before .before .before .before .before .before .before .before .before .before .pre .0 .part) refl) at (c .before .before .before .check-eap .ensures)) (c .move-to2 .ensures) (c .before .before .before .before .before .before .before .before .before .before .before .before .pre .1) (rw (c .before .before .before .before .before .enum-told .given .1) at (c .before .before .before .before .before .before .before .check-label-dup .ensures))
+returns-2 c = asserted (c .before .before .before .before .before .before .before .before .read-row .ensures) (c .before .before .before .check-eap .ensures) (c .move-to2 .ensures) (c .before .before .before .before .before .before .before .before .before .before .before .before .pre .1) (rw (c .before .before .before .before .before .enum-told .given .1) at (c .before .before .before .before .before .before .before .check-label-dup .ensures))
 
 pub scope-check-assert-spec : {M : Type 1} → statement M
 scope-check-assert-spec =

@@ -1,6 +1,6 @@
 use mathlib.Core.Path.{refl}
 use native.Mathlib.Omega.{arith}
-use Rattle.scopeck.proofs.Ready.{row-room, can-labelled, part-counted, walk-eap}
+use Rattle.scopeck.proofs.Ready.{row-room, can-labelled, walk-eap}
 use Rattle.scopeck.proofs.Labelled.{borne-at, later-bearer, essential-rejected, essential-accepted}
 use borrow.Author.Needs.{needs}
 use Rattle.scopeck.proofs.kinds.scope_check_essential.Statement.{statement}
@@ -54,7 +54,7 @@ same-length-4 : tie.Need-same-length-4
 same-length-4 c = search needs
 
 returns-2 : tie.Need-returns-2
-returns-2 c = essential-rejected (c .before .before .before .before .before .before .before .before .before .before .before .before .read-row .ensures) (rw (part-counted (c .before .before .before .before .before .before .before .before .before .before .before .before .before .before .before .before .before .pre .0 .holds) (c .before .before .before .before .before .before .before .before .before .before .before .before .read-row .ensures) (c .before .before .before .before .before .before .before .before .before .before .before .before .before .before .before .before .before .pre .0 .part) refl) at (c .before .before .before .before .before .check-eap .ensures)) (c .move-to2 .ensures) (c .before .before .before .before .before .before .before .before .before .before .before .before .before .before .before .before .before .pre .1) (rw (c .before .before .before .before .before .before .before .before .enum-told .given .1) at (c .before .before .before .before .before .before .before .before .before .before .check-label-dup .ensures)) (c .before .if1 .taken)
+returns-2 c = essential-rejected (c .before .before .before .before .before .before .before .before .before .before .before .before .read-row .ensures) (c .before .before .before .before .before .check-eap .ensures) (c .move-to2 .ensures) (c .before .before .before .before .before .before .before .before .before .before .before .before .before .before .before .before .before .pre .1) (rw (c .before .before .before .before .before .before .before .before .enum-told .given .1) at (c .before .before .before .before .before .before .before .before .before .before .check-label-dup .ensures)) (c .before .if1 .taken)
 
 push-requires : tie.Need-push-requires
 push-requires c κs = let b = (c .before .before .before .before .before .before .before .before .before .before .before .before .before .before .before .before .before .pre .0 .holds) in (b .room, omega (arith, row-room b, b .stands .essentials), omega arith, omega (arith, row-room b))
@@ -69,7 +69,7 @@ same-length-6 : tie.Need-same-length-6
 same-length-6 c = search needs
 
 returns-3 : tie.Need-returns-3
-returns-3 c = essential-accepted (c .before .before .before .before .before .before .before .before .before .before .before .before .before .before .before .before .read-row .ensures) (rw (part-counted (c .before .before .before .before .before .before .before .before .before .before .before .before .before .before .before .before .before .before .before .before .before .pre .0 .holds) (c .before .before .before .before .before .before .before .before .before .before .before .before .before .before .before .before .read-row .ensures) (c .before .before .before .before .before .before .before .before .before .before .before .before .before .before .before .before .before .before .before .before .before .pre .0 .part) refl) at (c .before .before .before .before .before .before .before .before .before .check-eap .ensures)) refl (c .before .before .before .before .before .before .before .before .before .before .before .before .before .before .before .before .before .before .before .before .before .pre .1) (rw (c .before .before .before .before .before .before .before .before .before .before .before .before .enum-told .given .1) at (c .before .before .before .before .before .before .before .before .before .before .before .before .before .before .check-label-dup .ensures)) (c .before .before .before .before .before .if1 .left) (c .before .before .before .push .ensures)
+returns-3 c = essential-accepted (c .before .before .before .before .before .before .before .before .before .before .before .before .before .before .before .before .read-row .ensures) (c .before .before .before .before .before .before .before .before .before .check-eap .ensures) refl (c .before .before .before .before .before .before .before .before .before .before .before .before .before .before .before .before .before .before .before .before .before .pre .1) (rw (c .before .before .before .before .before .before .before .before .before .before .before .before .enum-told .given .1) at (c .before .before .before .before .before .before .before .before .before .before .before .before .before .before .check-label-dup .ensures)) (c .before .before .before .before .before .if1 .left) (c .before .before .before .push .ensures)
 
 pub scope-check-essential-spec : {M : Type 1} → statement M
 scope-check-essential-spec =
