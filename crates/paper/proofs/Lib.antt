@@ -12,6 +12,7 @@ pub mod Edges
 pub mod Lookups
 pub mod Readings
 pub mod Measures
+pub mod Proofs
 pub mod Marked
 pub mod Searches
 pub mod Sums
