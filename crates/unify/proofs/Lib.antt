@@ -1,0 +1,5 @@
+pub mod Entries
+pub mod Matches
+pub mod Pushes
+pub mod Moves
+pub mod Packed
