@@ -36,3 +36,9 @@ abbrev pub stands : (List ℕ → ℕ) → List ℕ → ℕ → List ℕ → Lis
 stands a w n l b (con m) = constant-word w n (a m) ≡ true
 stands a w n l b (var m) =
     (constant-word w n (a m) ≡ false) × (plain (drop (start-of w n (a m)) l) ≡ body-words a (bound b m))
+
+-- the words bind the variable of a binding as the binding does
+abbrev pub binding-stands : (List ℕ → ℕ) → List ℕ → ℕ → List ℕ → Binding → Type 0
+binding-stands a w n l x =
+    (constant-word w n (a (x .name)) ≡ false)
+    × (plain (drop (start-of w n (a (x .name))) l) ≡ body-words a (x .body))
