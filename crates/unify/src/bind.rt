@@ -23,6 +23,7 @@ pub fn start_of(work: &[u32], n: usize, atom: Atom) -> usize
     low + 4294967296 * high
 }
 
+/// Stores where the symbols for a variable start.
 pub fn put_start(work: &mut [u32], n: usize, atom: Atom, start: usize)
     requires { ⌜ Room (now work) n × (atom .0 < n) ⌝ }
     ensures { λ r. ⌜ now (work .exit) ≡ with-start (now (work .entry)) n (atom .0) start ⌝ }

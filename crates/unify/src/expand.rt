@@ -13,6 +13,7 @@ ghost use Rattle.unify.specs.Entries.{plain, entry-of, AtomsBelow};
 ghost use Rattle.unify.specs.Bound.{token-words, spread};
 ghost use Rattle.unify.specs.Pushes.{Pushes};
 
+/// Stores one word at `p`.
 pub fn put_word(stack: &mut [u32], p: usize, x: u32) -> Placed
     requires { ⌜ p ≤ length (now stack) ⌝ }
     ensures { λ r. ⌜ Pushes (now (stack .entry)) (now (stack .exit)) p r (x ∷ []) ⌝ }
