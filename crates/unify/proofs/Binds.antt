@@ -22,19 +22,21 @@ module _ (a : List ℕ → ℕ) (w : List ℕ) (n : ℕ) (l : List ℕ) (v : Lis
   others : (b : List Binding) → All (λ x. (a (x .name) < n) × (a (x .name) ≢ a v)) b → All (binding-stands a w n l) b → All (binding-stands a (with-start w n (a v) s) n l) b
   others [] all-none all-none = all-none
   others (x ∷ b) (all-more d p) (all-more e q) =
-      all-more
-      (constant-kept w n (a v) s room h (a (x .name)) (d .0) ∙ e .0,
-      ap (λ (k : ℕ). plain (drop k l)) (start-other w n (a v) s room h (a (x .name)) (d .1)) ∙ e .1)
+      all-more (
+        constant-kept w n (a v) s room h (a (x .name)) (d .0) ∙ e .0,
+        ap (λ (k : ℕ). plain (drop k l)) (start-other w n (a v) s room h (a (x .name)) (d .1)) ∙ e .1,
+      )
       (others b p q)
 
   pub bind-more : (x : Binding) (b : List Binding) → x .name ≡ v → constant-word w n (a v) ≡ false → plain (drop s l) ≡ body-words a (x .body)
       → All (λ y. (a (y .name) < n) × (a (y .name) ≢ a v)) b → All (binding-stands a w n l) b → All (binding-stands a (with-start w n (a v) s) n l) (x ∷ b)
   bind-more x b e c f p q =
-      all-more
-      (ap (λ (z : List ℕ). constant-word (with-start w n (a v) s) n (a z)) e ∙ constant-kept w n (a v) s room h (a v) h ∙ c,
-      ap (λ (z : List ℕ). plain (drop (start-of (with-start w n (a v) s) n (a z)) l)) e
-      ∙ ap (λ (k : ℕ). plain (drop k l)) (start-same w n (a v) s room h)
-      ∙ f)
+      all-more (
+        ap (λ (z : List ℕ). constant-word (with-start w n (a v) s) n (a z)) e ∙ constant-kept w n (a v) s room h (a v) h ∙ c,
+        ap (λ (z : List ℕ). plain (drop (start-of (with-start w n (a v) s) n (a z)) l)) e
+            ∙ ap (λ (k : ℕ). plain (drop k l)) (start-same w n (a v) s room h)
+            ∙ f,
+      )
       (others b p q)
 
 -- ---- a variable that has a binding stands for it
@@ -44,9 +46,10 @@ bound-stands a w n l [] v all-none e = absurd (clash (sym e))
 bound-stands a w n l (x ∷ b) v (all-more d p) e =
     split (sameb (x .name) v)
     (λ q.
-    let z : x .name ≡ v = same-eq (x .name) v q in
-    (ap (λ (y : List ℕ). constant-word w n (a y)) (sym z) ∙ d .0,
-    rw q (ap (λ (y : List ℕ). plain (drop (start-of w n (a y)) l)) (sym z) ∙ d .1)))
+    let z : x .name ≡ v = same-eq (x .name) v q in (
+      ap (λ (y : List ℕ). constant-word w n (a y)) (sym z) ∙ d .0,
+      rw q (ap (λ (y : List ℕ). plain (drop (start-of w n (a y)) l)) (sym z) ∙ d .1),
+    ))
     (λ q.
     let r = bound-stands a w n l b v p (rw q at e) in
     (r .0, rw q (r .1)))

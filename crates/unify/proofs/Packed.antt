@@ -63,12 +63,12 @@ module _ (a : List ℕ → ℕ) (low : (n : List ℕ) → a n < flag) where
       let t : top ≡ suc (s + length b) = omega (arith, length-take-le top l h, ap length z, length-append (packed a st) (c ∷ b)) in
       let f : getD l s 0 ≡ c = sym (getD-take top l s 0 (omega arith)) ∙ ap (λ (y : List ℕ). getD y s 0) z ∙ getD-append-seam (packed a st) c b 0 in
       let g : (i : ℕ) → i < length b → getD l (suc (s + i)) 0 < flag = λ i k.
-          let m : getD l (suc (s + i)) 0 ≡ getD b i 0 =
-          sym (getD-take top l (suc (s + i)) 0 (omega arith))
-          ∙ ap (λ (y : List ℕ). getD y (suc (s + i)) 0) z
-          ∙ ap (λ (j : ℕ). getD (packed a st ++ (c ∷ b)) j 0) (sym (add-suc s i))
-          ∙ getD-append-add (packed a st) (c ∷ b) (suc i) 0 in
-          omega (arith, m, body-low (e .body) i k) in
+      let m : getD l (suc (s + i)) 0 ≡ getD b i 0 =
+      sym (getD-take top l (suc (s + i)) 0 (omega arith))
+      ∙ ap (λ (y : List ℕ). getD y (suc (s + i)) 0) z
+      ∙ ap (λ (j : ℕ). getD (packed a st ++ (c ∷ b)) j 0) (sym (add-suc s i))
+      ∙ getD-append-add (packed a st) (c ∷ b) (suc i) 0 in
+      omega (arith, m, body-low (e .body) i k) in
       ap (last-flag l) t ∙ start-at l s (length b) (omega (arith, f)) g
 
   -- ---- what is left of an entry from its first symbol on
