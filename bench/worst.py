@@ -1,6 +1,7 @@
 """Texts that are hard on one part of the operation, each in two lengths: what `run` prints under 'Worst cases'.
 
-A case is a name, two sizes, what its cost grows with, and a function from a size to the pieces of the text.
+A case is a name, two sizes, what its cost grows with, and a function from a size to the pieces of the text; after these, `--short` if
+frames are to have mandatory variables only.
 """
 
 import random
@@ -47,6 +48,12 @@ def wide_disjoint(k):
     yield from variables(k)
     yield floats(range(k)) + "$d " + " ".join(f"v{i}" for i in range(k)) + " $.\n"
     yield from (f"a{i} $p c v{i} $= ? $.\n" for i in range(k))
+
+
+def under_one_disjoint(k):
+    yield from variables(4095)
+    yield "$d " + " ".join(f"v{i}" for i in range(4095)) + " $.\n"
+    yield from (f"a{i} $a c $.\n" for i in range(k))
 
 
 def narrow_disjoint(k):
@@ -138,6 +145,8 @@ CASES = [
     ("so many groups in groups", 250_000, 1_000_000, "text", groups),
     ("the same, a `$v` and a `$f` in each", 25_000, 100_000, "text", groups_with_floats),
     ("`$d` of so many variables, as many assertions", 150, 300, "output", wide_disjoint),
+    ("a `$d` of 4,095 variables, so many assertions", 50, 100, "output", under_one_disjoint),
+    ("the same, optional variables left out", 1_250, 5_000, "active `$d` tokens times assertions", under_one_disjoint, "--short"),
     ("so many `$d x y`, as many assertions", 2_000, 4_000, "active `$d` times assertions", narrow_disjoint),
     ("so many variables in 20 frames, `$f` in order", 2_000, 4_000, "output", lambda k: many_variables(k, False, False)),
     ("the same, `$f` in any order", 2_000, 4_000, "output", lambda k: many_variables(k, True, False)),

@@ -28,11 +28,11 @@ int main(int count, char **words)
         return 3;
     }
     size_t length = fread(text, 1, MOST + 1, file);
-    uint32_t *work = lent(0), number = janorembe_measure(text, length, work, 0, answer);
+    uint32_t *work = lent(0), number = janorembe_measure(text, length, work, 0, 0, answer);
     if (number == 2) { /* the place is the words of work area that are needed */
         uint64_t work_length = answer[0];
         work = lent(4 * work_length);
-        number = janorembe_measure(text, length, work, work_length, answer);
+        number = janorembe_measure(text, length, work, work_length, 0, answer);
     }
     if (number != 0) {
         printf("%s: refused with number %u at %llu\n", words[1], number, (unsigned long long)answer[0]);

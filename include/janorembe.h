@@ -41,6 +41,8 @@ extern "C" {
  * text, text_length      the bytes to check; only read
  * work, work_length      32-bit words to work in, and how many (words, not bytes). What they hold before means nothing;
  *                        afterwards they all are 0, whatever the number
+ * full                   0 for frames with mandatory variables only, any other number for full frames. Number 7 counts all
+ *                        variables in either case
  *
  * The buffers and answer must not overlap; work is aligned to 4 bytes and answer to 8, as C's own arrays are. No pointer may
  * be null: with a length of 0 any other will do. */
@@ -49,7 +51,7 @@ extern "C" {
  * a work_length of 0 the number is 2 (or 1), and the place says them. */
 uint32_t janorembe_measure(const uint8_t *text, size_t text_length,
                            uint32_t *work, size_t work_length,
-                           uint64_t answer[8]);
+                           uint32_t full, uint64_t answer[8]);
 
 /* Checks a text and writes the frames of its statements and the diagnostics. It repeats every check, so a text need not have
  * been measured; over buffers as long as the measure says the number is the measure's.
@@ -60,7 +62,7 @@ uint32_t janorembe_write(const uint8_t *text, size_t text_length,
                          uint32_t *work, size_t work_length,
                          uint8_t *frames, size_t frames_length,
                          uint8_t *diags, size_t diags_length,
-                         uint64_t answer[8]);
+                         uint32_t full, uint64_t answer[8]);
 
 /* Looks a label up in a frame stream. The whole stream is walked first. Returns a number:
  *

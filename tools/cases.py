@@ -1,6 +1,6 @@
 """Cases of vectors: one a line, what is lent before the lone `=`, what is answered after it (vectors/README.md says the keys).
 
-The lines of the older files, texts of nine fields and look-ups of five, are read as the cases that they are.
+The lines of the older files, texts of nine fields and look-ups of five, are read as the cases that they are, with full frames.
 """
 import pathlib
 
@@ -33,8 +33,8 @@ def case(line):
         name, operation, *lent = words[:words.index("=")]
         return Case(name, operation, fields(lent), fields(words[words.index("=") + 1:]))
     if len(words) == 9:
-        lent, answered = ("text", "work", "frames", "diags"), ("number", "place", "frames", "diags")
-        return Case(words[0], "write", dict(zip(lent, words[1:5])), dict(zip(answered, words[5:])))
+        lent, answered = ("text", "work", "frames", "diags", "full"), ("number", "place", "frames", "diags")
+        return Case(words[0], "write", dict(zip(lent, [*words[1:5], "1"])), dict(zip(answered, words[5:])))
     if len(words) == 5:
         return Case(words[0], "lookup", dict(zip(("frames", "label"), words[1:3])), dict(zip(("number", "place"), words[3:])))
     raise NotUnderstood(f"not a case: {line[:60]}")

@@ -6,15 +6,19 @@ import types
 
 MODEL = pathlib.Path(__file__).resolve().parent / "model"
 # the landed requests that change what a text is answered
-LANDED = ["a2_comments"]
+LANDED = ["a2_comments", "a8_short_frames"]
 
 
 def load():
-    """The names of the model, those of the landed requests in place of its own."""
+    """The names of the model, those of the landed requests in place of its own. What a request takes from the model is
+    what the requests before it made of that. Frames have mandatory variables only, unless `check` is given FULL."""
     sys.path[:0] = [str(MODEL), str(MODEL / "requests")]
-    names = {}
-    for name in ["model", *LANDED]:
-        names.update(vars(importlib.import_module(name)))
+    base = vars(importlib.import_module("model"))
+    names = dict(base)
+    for request in map(importlib.import_module, LANDED):
+        taken = [name for name, thing in vars(request).items() if base.get(name) is thing]
+        vars(request).update({name: names[name] for name in taken}, model=types.SimpleNamespace(**names))
+        names.update(vars(request))
     return types.SimpleNamespace(**names)
 
 

@@ -25,7 +25,7 @@ pub fn check(out: &mut Out, files: &[OsString], options: &Options) -> io::Result
     loop {
         while running.len() < options.jobs {
             let Some(file) = rest.next() else { break };
-            running.push_back(Job::start(file, options.memory));
+            running.push_back(Job::start(file, options.memory, false));
         }
         let Some(job) = running.pop_front() else { return Ok(worst) };
         let status = match job.wait(options.quiet) {

@@ -27,7 +27,7 @@ struct Stock<'a> {
 }
 
 pub fn in_text(out: &mut Out, file: &OsStr, labels: &[Vec<u8>], options: &Options) -> io::Result<Status> {
-    let opened = match open(out, file, options)? {
+    let opened = match open(out, file, true, options)? {
         Ok(opened) => opened,
         Err(status) => return Ok(status),
     };
@@ -187,7 +187,11 @@ fn assertion_parts(out: &mut Out, stock: &Stock, a: &Assertion) -> io::Result<()
         }
     };
     out.line(&format!("  mandatory variables: {}", names(&a.variables[..a.mandatory])))?;
-    out.line(&format!("  optional variables:  {}", names(&a.variables[a.mandatory..])))?;
+    let optional = match (a.variables.len() > a.mandatory, stock.source) {
+        (false, None) => "none in the stream".to_owned(),
+        _ => names(&a.variables[a.mandatory..]),
+    };
+    out.line(&format!("  optional variables:  {optional}"))?;
     let pairs: Vec<(usize, usize)> = a.pairs.iter().map(|&(one, other)| (one.into(), other.into())).collect();
     out.line(&format!("  kept apart:          {}", pairs_in_words(a, &pairs)))?;
     let optional: Vec<_> = a.all_apart().filter(|&(_, other)| other >= a.mandatory).collect();

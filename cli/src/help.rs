@@ -47,7 +47,8 @@ is bytes: 417, 0417 and 00417 are three. A label that no frame bears is status 1
 never taken instead. Errors elsewhere in the text do not change the status; a line on standard error counts them. A label may begin
 with -, after --.
 
-  --stream        FILE is a frame stream, as `janorembe streams` writes it; offsets are shown for lines
+  --stream        FILE is a frame stream, as `janorembe streams` writes it; offsets are shown for lines. Optional variables
+                  are shown if the stream has them
   --memory BYTES  the most to lend to the core (4G)
 
 and the options of every command (`janorembe --help`).";
@@ -68,10 +69,12 @@ janorembe streams [OPTION...] FILE --frames OUT --diags OUT
 
 Writes the frame stream and the diagnostics stream of a text to files, byte for byte as the core gives them (docs/FORMATS.md has
 every record), then shows the line of counts. One of the two may be left out. An output is whole or not there: it is written beside
-its place and renamed. It is never an input. Nothing is written if the text is refused.
+its place and renamed. It is never an input. Nothing is written if the text is refused. Frames have their mandatory variables
+only, unless --full is given.
 
   --frames OUT    the frame stream
   --diags OUT     the diagnostics stream
+  --full          frames with their optional variables and all rows
   --memory BYTES  the most to lend to the core (4G)
 
 and the options of every command (`janorembe --help`).";

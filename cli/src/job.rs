@@ -24,20 +24,21 @@ pub struct Job {
     result: Receiver<Result<Done, Failure>>,
 }
 
-fn work(name: &OsStr, memory: u64, length: &AtomicUsize) -> Result<Done, Failure> {
+fn work(name: &OsStr, memory: u64, full: bool, length: &AtomicUsize) -> Result<Done, Failure> {
     let text = input::read(name, MOST_BYTES)?;
     length.store(text.len(), Ordering::Relaxed);
-    let answer = lend::streams(&text, memory)?;
+    let answer = lend::streams(&text, memory, full)?;
     Ok(Done { text, answer })
 }
 
 impl Job {
-    pub fn start(name: &OsStr, memory: u64) -> Job {
+    /// The frames are full or have mandatory variables only.
+    pub fn start(name: &OsStr, memory: u64, full: bool) -> Job {
         let length = Arc::new(AtomicUsize::new(0));
         let (give, result) = channel();
         let (mine, counted, failed) = (name.to_owned(), length.clone(), give.clone());
         let thread = std::thread::Builder::new();
-        if let Err(error) = thread.spawn(move || drop(give.send(work(&mine, memory, &counted)))) {
+        if let Err(error) = thread.spawn(move || drop(give.send(work(&mine, memory, full, &counted)))) {
             let _ = failed.send(Err(Failure::failed(input::reason(&error))));
         }
         Job { name: name.to_owned(), length, begun: Instant::now(), result }

@@ -12,7 +12,7 @@ use std::ffi::OsStr;
 use std::io;
 
 pub fn labels(out: &mut Out, file: &OsStr, bytes: bool, options: &Options) -> io::Result<Status> {
-    let opened = match open(out, file, options)? {
+    let opened = match open(out, file, false, options)? {
         Ok(opened) => opened,
         Err(status) => return Ok(status),
     };

@@ -46,7 +46,7 @@ struct Lengths {
 
 /// The words of work area that a text needs, at the cost of counting its tokens; or the refusal that comes before.
 fn words_needed(text: &[u8]) -> Result<u64, Refusal> {
-    let answer = measure(text, &mut []);
+    let answer = measure(text, &mut [], false);
     match answer.number {
         2 => Ok(answer.place),
         number => Err(Refusal { number, place: answer.place as usize }),
@@ -59,8 +59,8 @@ fn guess(text: &[u8], words: u64) -> Lengths {
 }
 
 /// Just the lengths that a text needs. A text that is refused needs none.
-fn measured(text: &[u8], work: &mut [u32]) -> Lengths {
-    let needed = measure(text, work);
+fn measured(text: &[u8], work: &mut [u32], full: bool) -> Lengths {
+    let needed = measure(text, work, full);
     Lengths { frames: needed.frames, diags: needed.diags }
 }
 
@@ -87,8 +87,8 @@ fn allow(bytes: u64, memory: u64) -> Result<(), Failure> {
     Ok(())
 }
 
-/// Both streams of a text, or its refusal, with at most so many bytes lent.
-pub fn streams(text: &[u8], memory: u64) -> Result<Answer, Failure> {
+/// Both streams of a text, its frames full or with mandatory variables only, or its refusal, with at most so many bytes lent.
+pub fn streams(text: &[u8], memory: u64, full: bool) -> Result<Answer, Failure> {
     let words = match words_needed(text) {
         Ok(words) => words,
         Err(refusal) => return Ok(Answer::Refused(refusal)),
@@ -98,11 +98,11 @@ pub fn streams(text: &[u8], memory: u64) -> Result<Answer, Failure> {
     let mut lengths = guess(text, words);
     for _ in 0..3 {
         if allow(words * WORD + lengths.frames + lengths.diags, memory).is_err() {
-            lengths = measured(text, &mut work);
+            lengths = measured(text, &mut work, full);
             allow(words * WORD + lengths.frames + lengths.diags, memory)?;
         }
         let (mut frames, mut diags) = (zeroed(lengths.frames), zeroed(lengths.diags));
-        let answer = write(text, &mut work, &mut frames, &mut diags);
+        let answer = write(text, &mut work, &mut frames, &mut diags, full);
         match answer.number {
             0 => {
                 frames.truncate(answer.frames as usize);

@@ -65,9 +65,9 @@ fn perform(out: &mut Out, order: &Order) -> io::Result<Status> {
         Command::Frame { file, labels, stream: false } => frame::in_text(out, file, labels, options),
         Command::Frame { file, labels, stream: true } => frame::in_stream(out, file, labels, options),
         Command::Labels { file, bytes } => labels::labels(out, file, *bytes, options),
-        Command::Streams { file, frames, diags } => {
+        Command::Streams { file, full, frames, diags } => {
             let places = streams::Places { frames: frames.as_ref(), diags: diags.as_ref() };
-            streams::streams(out, file, places, options)
+            streams::streams(out, file, *full, places, options)
         }
         Command::Explain(topic) => explain::explain(out, *topic),
         Command::Help(command) => out.line(help::of(*command)).map(|()| Status::Clean),

@@ -19,9 +19,9 @@ pub struct Opened {
     counts: Counts,
 }
 
-/// Reads and checks a file. A refusal or a failure is shown here, and its status handed back.
-pub fn open(out: &mut Out, file: &OsStr, options: &Options) -> io::Result<Result<Opened, Status>> {
-    let done = match Job::start(file, options.memory).wait(options.quiet) {
+/// Reads and checks a file, for full frames or short ones. A refusal or a failure is shown here, and its status handed back.
+pub fn open(out: &mut Out, file: &OsStr, full: bool, options: &Options) -> io::Result<Result<Opened, Status>> {
+    let done = match Job::start(file, options.memory, full).wait(options.quiet) {
         Ok(done) => done,
         Err(failure) => return check::failed(out, file, &failure, options).map(Err),
     };

@@ -26,8 +26,8 @@ pub struct Places<'a> {
     pub diags: Option<&'a OsString>,
 }
 
-pub fn streams(out: &mut Out, file: &OsStr, places: Places, options: &Options) -> io::Result<Status> {
-    let opened = match open(out, file, options)? {
+pub fn streams(out: &mut Out, file: &OsStr, full: bool, places: Places, options: &Options) -> io::Result<Status> {
+    let opened = match open(out, file, full, options)? {
         Ok(opened) => opened,
         Err(status) => return Ok(status),
     };

@@ -43,7 +43,7 @@ pub enum Command {
     Check { files: Vec<OsString> },
     Frame { file: OsString, labels: Vec<Vec<u8>>, stream: bool },
     Labels { file: OsString, bytes: bool },
-    Streams { file: OsString, frames: Option<OsString>, diags: Option<OsString> },
+    Streams { file: OsString, full: bool, frames: Option<OsString>, diags: Option<OsString> },
     Explain(Option<(Topic, u32)>),
     Help(Option<&'static str>),
     Version,
@@ -65,7 +65,7 @@ const COMMANDS: [&str; 5] = ["check", "frame", "labels", "streams", "explain"];
 const EVERY: &[&str] = &COMMANDS;
 
 /// Every option: its name, whether a value follows, and the commands that take it.
-const KNOWN: [(&str, bool, &[&str]); 14] = [
+const KNOWN: [(&str, bool, &[&str]); 15] = [
     ("--format", true, EVERY),
     ("--json", false, EVERY),
     ("--color", true, EVERY),
@@ -79,6 +79,7 @@ const KNOWN: [(&str, bool, &[&str]); 14] = [
     ("--bytes", false, &["labels"]),
     ("--frames", true, &["streams"]),
     ("--diags", true, &["streams"]),
+    ("--full", false, &["streams"]),
     ("-h", false, EVERY),
 ];
 
@@ -287,7 +288,7 @@ fn streams(words: &Apart) -> Result<Command, String> {
     if frames.is_none() && diags.is_none() {
         return Err("streams asks for --frames OUT, --diags OUT or both".to_owned());
     }
-    Ok(Command::Streams { file: one_file(words)?, frames, diags })
+    Ok(Command::Streams { file: one_file(words)?, full: words.given("--full"), frames, diags })
 }
 
 fn explain(words: &Apart) -> Result<Command, String> {

@@ -17,7 +17,7 @@ const PUT: &[u8] = b"$$$ \n\t.({})=cvdfeapx0\x00\x7F\x80\xFF";
 fn status(text: &[u8]) -> Status {
     let answers = [Format::Text, Format::Short, Format::Json].map(|format| {
         let options = Options { format, max: 0, memory: 1 << 32, jobs: 1, color: Color::Never, quiet: true };
-        let answer = lend::streams(text, options.memory).expect("an answer");
+        let answer = lend::streams(text, options.memory, false).expect("an answer");
         let done = Done { text: text.to_vec(), answer };
         check::one(&mut Out::of(&options), OsStr::new("damaged.mm"), &done, &options).expect("nothing is written")
     });

@@ -116,12 +116,13 @@ fn variables_at_the_limit() {
 fn memory() {
     let folder = Folder::of("memory");
     folder.put("a.mm", &many_variables(1_000));
-    let got = folder.run(&["check", "--memory", "200000", "a.mm"]);
+    assert_eq!(folder.run(&["check", "--memory", "200000", "a.mm"]).status, 0, "it asks for no optional variables");
+    let got = folder.run(&["frame", "--memory", "200000", "a.mm", "a"]);
     let needed: u64 = got.err.split(' ').nth(2).and_then(|word| word.parse().ok()).expect("a number of bytes");
     assert_eq!((got.out.as_str(), got.status), ("", 3));
     assert!(got.err.ends_with(" bytes of memory are needed, and --memory allows less\n"), "{}", got.err);
-    assert_eq!(folder.run(&["check", "--memory", &(needed - 1).to_string(), "a.mm"]).status, 3);
-    assert_eq!(folder.run(&["check", "--memory", &needed.to_string(), "a.mm"]).status, 0);
+    assert_eq!(folder.run(&["frame", "--memory", &(needed - 1).to_string(), "a.mm", "a"]).status, 3);
+    assert_eq!(folder.run(&["frame", "--memory", &needed.to_string(), "a.mm", "a"]).status, 0);
 }
 
 #[test]
@@ -289,8 +290,11 @@ fn outputs() {
     assert!(got.err.ends_with("both streams cannot go to one file\n"), "{}", got.err);
     assert_eq!(folder.get("old").as_deref(), Some(&b"old"[..]), "nothing was written so far");
     assert_eq!(folder.run(&["streams", "kinds.mm", "--frames", "link", "--diags", "d"]).status, 1);
-    let streams = janorembe::streams(KINDS).expect("it is read");
-    assert_eq!((folder.get("old"), folder.get("d")), (Some(streams.frames), Some(streams.diags)));
+    let [short, full] = [false, true].map(|full| janorembe::streams(KINDS, full).expect("it is read"));
+    assert!(short.frames.len() < full.frames.len());
+    assert_eq!((folder.get("old"), folder.get("d")), (Some(short.frames), Some(short.diags)));
+    assert_eq!(folder.run(&["streams", "--full", "kinds.mm", "--frames", "link", "--diags", "d"]).status, 1);
+    assert_eq!((folder.get("old"), folder.get("d")), (Some(full.frames), Some(full.diags)));
     assert_eq!(folder.names(), ["d", "kinds.mm", "link", "lost", "old", "text"]);
     assert_eq!(folder.get("kinds.mm").as_deref(), Some(KINDS));
 }

@@ -7,7 +7,7 @@ use janorembe_cli::lend::{streams, Answer};
 /// The kinds that a text gets, or the number that refuses it.
 fn given(text: &str) -> Result<Vec<u16>, u32> {
     let text = text.replace("<e9>", "\u{1}").into_bytes();
-    match streams(&text, 1 << 32).expect("an answer") {
+    match streams(&text, 1 << 32, false).expect("an answer") {
         Answer::Refused(refusal) => Err(refusal.number),
         Answer::Read(streams) => {
             Ok(decode::diagnostics(&streams.diags).expect("records").iter().map(|d| d.kind).collect())

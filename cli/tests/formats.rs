@@ -13,7 +13,7 @@ fn listed(from: &str, to: &str) -> Vec<u8> {
 }
 
 fn given(text: &[u8]) -> (Vec<u8>, Vec<u8>) {
-    match streams(text, 1 << 32).expect("an answer") {
+    match streams(text, 1 << 32, false).expect("an answer") {
         Answer::Read(streams) => (streams.frames, streams.diags),
         Answer::Refused(refusal) => panic!("{refusal:?}"),
     }

@@ -107,11 +107,13 @@ fn frames() {
     let folder = Folder::of("golden-frames");
     folder.put("order.mm", ORDER);
     folder.run(&["streams", "order.mm", "--frames", "order.frames"]);
+    folder.run(&["streams", "--full", "order.mm", "--frames", "full.frames"]);
     for form in ["text", "short", "json"] {
-        let runs: [&[&str]; 5] = [
+        let runs: [&[&str]; 6] = [
             &["frame", "--format", form, "order.mm", "0417", "e-1", "wq", "wx"],
             &["frame", "--format", form, "order.mm", "417", "--", "-0"],
             &["frame", "--format", form, "--stream", "order.frames", "0417", "wq", "00417"],
+            &["frame", "--format", form, "--stream", "full.frames", "0417"],
             &["labels", "--format", form, "order.mm"],
             &["labels", "--format", form, "--bytes", "order.mm"],
         ];

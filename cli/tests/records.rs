@@ -1,4 +1,5 @@
-//! Every frame record of the vectors, and of the databases that are at hand, decoded and written again: the same bytes.
+//! Every frame record of the vectors, and of the databases that are at hand, decoded and written again: the same bytes. With its
+//! optional variables cut off it is the short record.
 
 mod common;
 
@@ -61,18 +62,47 @@ fn record(frame: &Frame) -> Vec<u8> {
     [u32(payload.len() as u32 + 2), u16(kind), payload].concat()
 }
 
+/// The rows of the mandatory variables, over those alone.
+fn cut_rows(a: &Assertion) -> Vec<u8> {
+    let mut rows = vec![0; a.mandatory * a.mandatory.div_ceil(8)];
+    let width = a.mandatory.div_ceil(8);
+    for (one, other) in a.all_apart().filter(|&(_, other)| other < a.mandatory) {
+        rows[one * width + other / 8] |= 1 << (other % 8);
+        rows[other * width + one / 8] |= 1 << (one % 8);
+    }
+    rows
+}
+
+/// The record of a frame with its mandatory variables only.
+fn short_record(frame: Frame) -> Vec<u8> {
+    let Frame::Assertion(a) = frame else { return record(&frame) };
+    let rows = cut_rows(&a);
+    let mut short: Assertion<'_> = a;
+    short.variables.truncate(short.mandatory);
+    short.rows = &rows;
+    record(&Frame::Assertion(short))
+}
+
+fn given(name: &str, text: &[u8], full: bool) -> Option<Vec<u8>> {
+    match streams(text, 1 << 32, full).expect(name) {
+        Answer::Read(streams) => Some(streams.frames),
+        Answer::Refused(_) => None,
+    }
+}
+
 /// The number of frames of a text; none if it is refused.
 fn same(name: &str, text: &[u8]) -> usize {
-    let Answer::Read(streams) = streams(text, 1 << 32).expect(name) else { return 0 };
-    let mut written = Vec::new();
-    let mut count = 0;
-    for frame in decode::frames(&streams.frames) {
+    let Some(full) = given(name, text, true) else { return 0 };
+    let (mut written, mut cut, mut count) = (Vec::new(), Vec::new(), 0);
+    for frame in decode::frames(&full) {
         let (at, frame) = frame.unwrap_or_else(|at| panic!("{name}: the record at {at} does not decode"));
         assert_eq!(at, written.len(), "{name}");
         written.extend(record(&frame));
+        cut.extend(short_record(frame));
         count += 1;
     }
-    assert!(written == streams.frames, "{name}: the bytes differ");
+    assert!(written == full, "{name}: the bytes differ");
+    assert!(Some(cut) == given(name, text, false), "{name}: the short stream differs");
     count
 }
 
@@ -97,9 +127,9 @@ fn databases() {
 #[test]
 fn hurt_records() {
     let text = b"$c c d $. $v x y $. f $f c x $. g $f c y $. $d x y $. e $e c d x $. a $a c d x d y d $.";
-    let Answer::Read(streams) = streams(text, 1 << 32).expect("an answer") else { panic!("it is read") };
-    let starts: Vec<usize> = decode::frames(&streams.frames).map(|frame| frame.expect("a frame").0).collect();
-    let last = streams.frames[starts[2]..].to_vec();
+    let frames = given("hurt", text, true).expect("it is read");
+    let starts: Vec<usize> = decode::frames(&frames).map(|frame| frame.expect("a frame").0).collect();
+    let last = frames[starts[2]..].to_vec();
     assert!(decode::frame_at(&last, 0).is_some());
     for length in 0..last.len() {
         assert!(decode::frame_at(&last[..length], 0).is_none(), "cut to {length}");

@@ -1,7 +1,7 @@
 #!/usr/bin/env python3
 """make.py VECTORS..: writes `stdin` and `stdout` of this crate from hand-made texts and all the vectors' texts that are read.
 
-The streams are those of the model (its `check`), a program that was written from document 01 by itself.
+The streams are those of the model (its `check`, with full frames), a program that was written from document 01 by itself.
 """
 import os
 import struct
@@ -47,7 +47,7 @@ def main(argv):
     given_texts = HAND + texts(argv)
     given, right = b"", b""
     for i, text in enumerate(given_texts):
-        number, _, frames, _ = model.check(text, 524288, 2621440, 1 << 40)
+        number, _, frames, _ = model.check(text, 524288, 2621440, 1 << 40, model.FULL)
         if number and i >= len(HAND):
             continue
         given += struct.pack("<I", len(text)) + text

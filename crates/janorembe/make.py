@@ -1,6 +1,6 @@
 #!/usr/bin/env python3
-"""make.py: writes `stdout` of this crate from its `stdin`: the streams of the model (its `check`), a program that was
-written from document 01 by itself."""
+"""make.py: writes `stdout` of this crate from its `stdin`: the streams of the model (its `check`, with mandatory
+variables only), a program that was written from document 01 by itself."""
 import os
 import sys
 

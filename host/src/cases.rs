@@ -139,8 +139,9 @@ impl Case {
         let mut lent = self.lent();
         let (text, mut work) = (lent.bytes("text")?, work_area(lent.number("work")?));
         let (mut frames, mut diags) = (Buffer::new(lent.number("frames")?), Buffer::new(lent.number("diags")?));
+        let full = lent.number("full")? != 0;
         lent.end()?;
-        let a = write(&text, &mut work, &mut frames.bytes, &mut diags.bytes);
+        let a = write(&text, &mut work, &mut frames.bytes, &mut diags.bytes, full);
         let (f, d) = (frames.used(a.frames), diags.used(a.diags));
         let rest = f.is_some() && d.is_some() && work.iter().all(|&w| w == 0) && kept_to(&a);
         let (f, d) = (f.unwrap_or_default(), d.unwrap_or_default());
@@ -156,8 +157,9 @@ impl Case {
     fn agrees_measure(&self) -> Result<bool, String> {
         let mut lent = self.lent();
         let (text, mut work) = (lent.bytes("text")?, work_area(lent.number("work")?));
+        let full = lent.number("full")? != 0;
         lent.end()?;
-        let a = measure(&text, &mut work);
+        let a = measure(&text, &mut work, full);
         let answered = [
             ("number", a.number.to_string()),
             ("place", a.place.to_string()),

@@ -51,6 +51,7 @@ extern "C" {
         text_length: usize,
         work: *mut u32,
         work_length: usize,
+        full: u32,
         answer: *mut u64,
     ) -> u32;
     fn janorembe_write(
@@ -62,6 +63,7 @@ extern "C" {
         frames_length: usize,
         diags: *mut u8,
         diags_length: usize,
+        full: u32,
         answer: *mut u64,
     ) -> u32;
     fn janorembe_lookup(
@@ -79,18 +81,21 @@ fn answered(number: u32, words: [u64; 8]) -> Answer {
     Answer { number, place, segment, line, frames, diags, verdicts, count, spare }
 }
 
-/// Measures a text: the bytes that both streams need, and the number of frames. Never number 8 or 9.
-pub fn measure(text: &[u8], work: &mut [u32]) -> Answer {
+/// Measures a text: the bytes that both streams need, with full frames or with mandatory variables only, and the number of
+/// frames. Never number 8 or 9.
+pub fn measure(text: &[u8], work: &mut [u32], full: bool) -> Answer {
     let mut words = [u64::MAX; 8];
     // SAFETY: the library reads `text`, writes `work` within its length, and keeps no pointer; the slices do not overlap,
     // since one of them is borrowed for writing; `words` has the eight words it writes.
-    let number =
-        unsafe { janorembe_measure(text.as_ptr(), text.len(), work.as_mut_ptr(), work.len(), words.as_mut_ptr()) };
+    let number = unsafe {
+        janorembe_measure(text.as_ptr(), text.len(), work.as_mut_ptr(), work.len(), full.into(), words.as_mut_ptr())
+    };
     answered(number, words)
 }
 
-/// Checks a text: frames and diagnostics go to the fronts of their buffers if the number is 0.
-pub fn write(text: &[u8], work: &mut [u32], frames: &mut [u8], diags: &mut [u8]) -> Answer {
+/// Checks a text: frames, full or with mandatory variables only, and diagnostics go to the fronts of their buffers if the
+/// number is 0.
+pub fn write(text: &[u8], work: &mut [u32], frames: &mut [u8], diags: &mut [u8], full: bool) -> Answer {
     let mut words = [u64::MAX; 8];
     // SAFETY: the library reads `text`, writes the other slices within their lengths, and keeps no pointer; the
     // slices do not overlap, since three of them are borrowed for writing; `words` has the eight words it writes.
@@ -104,6 +109,7 @@ pub fn write(text: &[u8], work: &mut [u32], frames: &mut [u8], diags: &mut [u8])
             frames.len(),
             diags.as_mut_ptr(),
             diags.len(),
+            full.into(),
             words.as_mut_ptr(),
         )
     };
@@ -144,14 +150,14 @@ pub fn words(text: &[u8]) -> usize {
 }
 
 /// Measures a text and checks it over buffers of its own, of just the lengths measured; a refusal is given back.
-pub fn streams(text: &[u8]) -> Result<Streams, Answer> {
+pub fn streams(text: &[u8], full: bool) -> Result<Streams, Answer> {
     let mut work = vec![0; words(text)];
-    let needed = measure(text, &mut work);
+    let needed = measure(text, &mut work, full);
     if needed.number != 0 {
         return Err(needed);
     }
     let (mut frames, mut diags) = (vec![0; needed.frames as usize], vec![0; needed.diags as usize]);
-    let answer = write(text, &mut work, &mut frames, &mut diags);
+    let answer = write(text, &mut work, &mut frames, &mut diags, full);
     if answer.number != 0 {
         return Err(answer);
     }

@@ -3,7 +3,7 @@
 mod common;
 
 use common::{number_at, refusal, run, settle, words_needed};
-use janorembe::lookup;
+use janorembe::{lookup, measure, streams};
 
 const MOST_BYTES: usize = 16_777_216;
 const MOST_VARIABLES: usize = 4_095;
@@ -106,6 +106,24 @@ fn optional_variables() {
     assert_eq!(refusal("one short", text.as_bytes(), words, r.frames.len() - 1, 0), (8, r.frames.len() as u64));
     let (text, at) = text_with(MOST_VARIABLES + 1, 0);
     assert_eq!(refusal("4,096", text.as_bytes(), words_needed(text.as_bytes()), 0, 0), (7, at as u64));
+}
+
+/// Number 7 counts optional variables where they would be left out as well.
+#[test]
+fn optional_variables_left_out() {
+    let (text, at) = text_with(MOST_VARIABLES, 0);
+    let head = [u32(at), string(b"a"), u16(0), u16(0), string(b""), u32(0), string(b"c")].concat();
+    let frame = record(2, &[head, u32(0), u32(0), u32(0), u32(0)].concat());
+    assert_eq!(streams(text.as_bytes(), false).expect("not refused").frames, frame);
+    for (optional, mandatory) in [(MOST_VARIABLES + 1, 0), (MOST_VARIABLES, 1), (0, MOST_VARIABLES + 1)] {
+        let (text, at) = text_with(optional, mandatory);
+        let answers = [false, true].map(|full| {
+            let a = measure(text.as_bytes(), &mut vec![0; words_needed(text.as_bytes())], full);
+            let refused = streams(text.as_bytes(), full).expect_err("refused");
+            [(a.number, a.place), (refused.number, refused.place)]
+        });
+        assert_eq!(answers, [[(7, at as u64); 2]; 2]);
+    }
 }
 
 #[test]

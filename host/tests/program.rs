@@ -37,7 +37,7 @@ fn written(program: &PathBuf, input: &[u8]) -> Vec<u8> {
 /// What it must write: both streams, or nothing if the text is refused or longer than the program takes.
 fn expected(input: &[u8]) -> Vec<u8> {
     let tokens = words_needed(input) / 16 - 1;
-    match streams(input) {
+    match streams(input, false) {
         Ok(s) if input.len() <= MOST_BYTES && tokens <= MOST_TOKENS => [s.frames, s.diags].concat(),
         _ => Vec::new(),
     }
@@ -61,7 +61,7 @@ fn whole_case() {
     assert_eq!(out.len(), 116);
     assert_eq!(out, expected(WHOLE));
     let both = b"$c c $. $v x $. f $f c x $. ${ e $e c x $. $c d $. p $p c x $= ? $. $} $d x x $. f $a c $.";
-    let s = streams(both).expect("not refused");
+    let s = streams(both, false).expect("not refused");
     assert_eq!(s.diags.len(), 3 * 18);
     assert_eq!(written(&program, both), [s.frames, s.diags].concat());
 }
@@ -122,7 +122,7 @@ fn most_diagnostics() {
 }
 
 /// Nearly the longest frame stream: 108 assertions, each with 72 mandatory variables, all pairs of these, and every byte that is
-/// left of the text in the typecodes of their `$f`.
+/// left of the text in the typecodes of their `$f`. No variable is optional: both settings give these bytes.
 fn longest_frames() -> Vec<u8> {
     let label = |i: usize| {
         let bytes: Vec<char> = ('a'..='z').chain('A'..='Z').chain('0'..='9').chain("-_.".chars()).collect();
@@ -141,13 +141,38 @@ fn longest_frames() -> Vec<u8> {
         .into_bytes()
 }
 
+/// The bytes of that stream by the layout of its records: lengths, fields and strings one by one.
+fn longest_bytes() -> usize {
+    let (names, typecode, pairs) = (72, 4 + 77, 72 * 71 / 2);
+    let float = |label: usize| 4 + 2 + 4 + 4 + (4 + label) + typecode + (4 + 1);
+    let head = 4 + 2 + 4 + (4 + 2) + 2 + 2 + names * (4 + 1) + 4;
+    let hypotheses = 4 + names * (2 + 4 + 2 + typecode) + (2 + 4 + typecode + 4 + names * (4 + 4 + 2) + 4 + 4);
+    let target = (4 + 1) + 4 + 4 + 4;
+    let apart = 4 + pairs * 4 + names * 9;
+    65 * float(1) + 7 * float(2) + 108 * (head + hypotheses + target + apart)
+}
+
 #[test]
 fn long_frames() {
     let text = longest_frames();
     assert!(text.len() <= MOST_BYTES && words_needed(&text) <= 16 * (MOST_TOKENS + 1));
-    assert_eq!(streams(&text).expect("not refused").frames.len(), 2_006_431);
+    for full in [false, true] {
+        assert_eq!(streams(&text, full).expect("not refused").frames.len(), longest_bytes());
+    }
+    assert_eq!(longest_bytes(), 2_006_431);
     let Some(program) = program() else { return };
     assert!(written(&program, &text) == expected(&text));
+}
+
+/// Optional variables are left out: the program writes short frames, and they are not the full ones.
+#[test]
+fn short_frames() {
+    let text = b"$c w $. $v x y z $. fx $f w x $. $d z y x $. a $a w x $. b $a w $.";
+    let [short, full] = [false, true].map(|full| streams(text, full).expect("not refused").frames);
+    // for `a` y, z and two rows of a byte; for `b` x, y, z and three rows
+    assert_eq!(full.len() - short.len(), (2 * 5 + 2) + (3 * 5 + 3));
+    let Some(program) = program() else { return };
+    assert_eq!(written(&program, text), short);
 }
 
 #[test]

@@ -56,13 +56,15 @@ fn buffers_one_short() {
     }
 }
 
-/// Every case of the file of the requests that have landed.
+/// Every case of the requests that have landed, and of both settings.
 #[test]
 fn every_case_of_the_requests() {
-    let path = concat!(env!("CARGO_MANIFEST_DIR"), "/../vectors/requests.txt");
-    let all = cases(&std::fs::read_to_string(path).expect("the cases")).expect("cases");
-    assert!(!all.is_empty());
-    for case in all {
-        assert_eq!(case.agrees(), Ok(true), "{}", case.name);
+    for file in ["requests.txt", "short.txt"] {
+        let path = format!("{}/../vectors/{file}", env!("CARGO_MANIFEST_DIR"));
+        let all = cases(&std::fs::read_to_string(path).expect("the cases")).expect("cases");
+        assert!(!all.is_empty());
+        for case in all {
+            assert_eq!(case.agrees(), Ok(true), "{file}: {}", case.name);
+        }
     }
 }

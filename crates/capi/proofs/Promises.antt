@@ -5,31 +5,35 @@ use mathlib.Core.List.{List}
 use Prim.Native.Nat.{ℕ}
 use Rattle.paper.specs.Answer.{measured-number, number}
 use Rattle.paper.specs.Lookup.{found-number, found-place}
+use Rattle.paper.specs.declared.Setting.{Setting}
 use Rattle.paper.specs.declared.Measured.{Measured}
 use Rattle.paper.specs.declared.Answer.{Answer}
 use Rattle.paper.specs.declared.Found.{Found}
 use Rattle.catalogue.specs.Promise.{Measures, Writes, Looks}
-use Rattle.capi.specs.Promise.{measured-words, written-words, Gauged, Written, Looked}
+use Rattle.capi.specs.Promise.{setting-of, measured-words, written-words, Gauged, Written, Looked}
 
 -- ---- the measure
-pub gauged : {t w w′ a′ : List ℕ} {m : Measured} {n : ℕ} → Measures t w w′ m → (n ≡ measured-number m) × (a′ ≡ measured-words m) → Gauged t w w′ a′ n
-gauged h e =
+pub gauged : {u : ℕ} {c : Setting} {t w w′ a′ : List ℕ} {m : Measured} {n : ℕ} → Measures c t w w′ m → c ≡ setting-of u → (n ≡ measured-number m) × (a′ ≡ measured-words m)
+    → Gauged u t w w′ a′ n
+gauged {u} {c} {t} {w} {w′} {a′} {m} h q e =
+    let g : Measures (setting-of u) t w w′ m = rw q at h in
     record {
-      told = e .0 ∙ ap measured-number (h .measured);
-      answer = e .1 ∙ ap measured-words (h .measured);
-      work = h .work;
+      told = e .0 ∙ ap measured-number (g .measured);
+      answer = e .1 ∙ ap measured-words (g .measured);
+      work = g .work;
     }
 
 -- ---- the writer
-pub written : {t w w′ f f′ d d′ a′ : List ℕ} {r : Answer} {n : ℕ} → Writes t w w′ f f′ d d′ r → (n ≡ number r) × (a′ ≡ written-words r)
-    → Written t w w′ f f′ d d′ a′ n
-written h e =
+pub written : {u : ℕ} {c : Setting} {t w w′ f f′ d d′ a′ : List ℕ} {r : Answer} {n : ℕ} → Writes c t w w′ f f′ d d′ r → c ≡ setting-of u
+    → (n ≡ number r) × (a′ ≡ written-words r) → Written u t w w′ f f′ d d′ a′ n
+written {u} {c} {t} {w} {w′} {f} {f′} {d} {d′} {a′} {r} h q e =
+    let g : Writes (setting-of u) t w w′ f f′ d d′ r = rw q at h in
     record {
-      told = e .0 ∙ ap number (h .answer);
-      answer = e .1 ∙ ap written-words (h .answer);
-      frames = h .frames;
-      diags = h .diags;
-      work = h .work;
+      told = e .0 ∙ ap number (g .answer);
+      answer = e .1 ∙ ap written-words (g .answer);
+      frames = g .frames;
+      diags = g .diags;
+      work = g .work;
     }
 
 -- ---- look-up

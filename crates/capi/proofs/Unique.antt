@@ -4,7 +4,7 @@ use mathlib.Core.Path.{sym, _∙_}
 use Rattle.capi.specs.Unique.{UniqueMeasure, Unique, UniqueLook}
 
 pub unique-measure : UniqueMeasure
-unique-measure t w r s a b =
+unique-measure u t w r s a b =
     λ i.
     record {
       number = (a .told ∙ sym (b .told)) i;
@@ -13,7 +13,7 @@ unique-measure t w r s a b =
     }
 
 pub unique : Unique
-unique t w f d r s a b =
+unique u t w f d r s a b =
     λ i.
     record {
       number = (a .told ∙ sym (b .told)) i;

@@ -5,7 +5,7 @@ use mathlib.Core.List.{List}
 use Prim.Native.Nat.{ℕ}
 use Rattle.capi.specs.Promise.{Gauged, Written, Looked}
 
--- ---- the measure, for the text t with work area w at entry
+-- ---- the measure, under the setting of number u, for the text t with work area w at entry
 pub record Gauge : Type 0 where
   pub number : ℕ
   pub answer : List ℕ
@@ -13,9 +13,9 @@ pub record Gauge : Type 0 where
 
 abbrev pub UniqueMeasure : Type 0
 UniqueMeasure =
-    (t w : List ℕ) (r s : Gauge)
-    → Gauged t w (r .work) (r .answer) (r .number)
-    → Gauged t w (s .work) (s .answer) (s .number)
+    (u : ℕ) (t w : List ℕ) (r s : Gauge)
+    → Gauged u t w (r .work) (r .answer) (r .number)
+    → Gauged u t w (s .work) (s .answer) (s .number)
     → r ≡ s
 
 -- ---- the writer, for the text t with work area w, frame buffer f and diagnostics buffer d at entry
@@ -26,11 +26,11 @@ pub record Told : Type 0 where
   pub diags : List ℕ
   pub work : List ℕ
 
-abbrev pub Allowed : List ℕ → List ℕ → List ℕ → List ℕ → Told → Type 0
-Allowed t w f d r = Written t w (r .work) f (r .frames) d (r .diags) (r .answer) (r .number)
+abbrev pub Allowed : ℕ → List ℕ → List ℕ → List ℕ → List ℕ → Told → Type 0
+Allowed u t w f d r = Written u t w (r .work) f (r .frames) d (r .diags) (r .answer) (r .number)
 
 abbrev pub Unique : Type 0
-Unique = (t w f d : List ℕ) (r s : Told) → Allowed t w f d r → Allowed t w f d s → r ≡ s
+Unique = (u : ℕ) (t w f d : List ℕ) (r s : Told) → Allowed u t w f d r → Allowed u t w f d s → r ≡ s
 
 -- ---- look-up of the label l in the frame buffer f
 pub record Shown : Type 0 where

@@ -2,6 +2,7 @@
 // `include/janorembe.h` declares them; what they promise is in `specs/Promise.antt`. Nothing is asked of a caller.
 use crate::numbers::lookup_number;
 use crate::numbers::lookup_place;
+use crate::numbers::setting_of;
 use crate::numbers::tell_measured;
 use crate::numbers::tell_written;
 ghost use Rattle.capi.specs.Promise.{Gauged, Written, Looked};
@@ -11,10 +12,16 @@ pub mod view;
 
 /// The number of `catalogue::measure`; place, lengths and number of frames go into `answer`.
 #[no_mangle]
-pub extern "C" fn janorembe_measure(text: &[u8], work: &mut [u32], answer: &mut [u64; 8]) -> u32
-    ensures { λ r. ⌜ Gauged (now (text .entry)) (now (work .entry)) (now (work .exit)) (now (answer .exit)) r ⌝ }
+pub extern "C" fn janorembe_measure(
+    text: &[u8],
+    work: &mut [u32],
+    full: u32,
+    answer: &mut [u64; 8],
+) -> u32
+    ensures { λ r. ⌜ Gauged full (now (text .entry)) (now (work .entry)) (now (work .exit)) (now (answer .exit)) r ⌝ }
 {
-    let measured = catalogue::measure(text, work);
+    let setting = setting_of(full);
+    let measured = catalogue::measure(text, work, setting);
     tell_measured(measured, answer)
 }
 
@@ -25,11 +32,13 @@ pub extern "C" fn janorembe_write(
     work: &mut [u32],
     frames: &mut [u8],
     diags: &mut [u8],
+    full: u32,
     answer: &mut [u64; 8],
 ) -> u32
-    ensures { λ r. ⌜ Written (now (text .entry)) (now (work .entry)) (now (work .exit)) (now (frames .entry)) (now (frames .exit)) (now (diags .entry)) (now (diags .exit)) (now (answer .exit)) r ⌝ }
+    ensures { λ r. ⌜ Written full (now (text .entry)) (now (work .entry)) (now (work .exit)) (now (frames .entry)) (now (frames .exit)) (now (diags .entry)) (now (diags .exit)) (now (answer .exit)) r ⌝ }
 {
-    let written = catalogue::write(text, work, frames, diags);
+    let setting = setting_of(full);
+    let written = catalogue::write(text, work, frames, diags, setting);
     tell_written(written, answer)
 }
 

@@ -4,10 +4,21 @@ use paper::Answer;
 use paper::Found;
 use paper::Measured;
 use paper::Refusal;
+use paper::Setting;
 ghost use mathlib.Core.Path.{_≡_};
 ghost use Rattle.paper.specs.Answer.{refusal-number, refusal-place, measured-number, number};
 ghost use Rattle.paper.specs.Lookup.{found-number, found-place};
-ghost use Rattle.capi.specs.Promise.{eight, measured-words, written-words};
+ghost use Rattle.capi.specs.Promise.{setting-of, eight, measured-words, written-words};
+
+/// The setting of a number: 0 for short frames, any other for full ones.
+pub fn setting_of(full: u32) -> Setting
+    ensures { λ r. ⌜ r ≡ setting-of full ⌝ }
+{
+    if full == 0 {
+        return Setting::Short;
+    }
+    Setting::Full
+}
 
 /// Numbers 1 to 9.
 fn refusal_number(refusal: Refusal) -> u32

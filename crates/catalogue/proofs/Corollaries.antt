@@ -5,13 +5,16 @@ use mathlib.Core.List.{List, [], _∷_, map}
 use Prim.Native.Nat.{ℕ}
 use lib.ListN.{length}
 use Rattle.paper.specs.Answer.{number, measure, answer-of, answer, frames-of, diags-of, frames-exit, diags-exit}
+use Rattle.paper.specs.declared.Setting.{Setting}
+use Rattle.paper.specs.declared.Setting.the-variants.{Short, Full}
 use Rattle.paper.specs.declared.Answer.{Answer}
 use Rattle.paper.proofs.Alls.{All, all-none, all-more}
-use Rattle.paper.proofs.Table.{lent, Case, _gives_, expected, operation, computed}
+use Rattle.paper.proofs.Table.{lent, Case, _gives_, expected, operation, computed-as}
 use Rattle.paper.proofs.Bench as bench
 use Rattle.paper.proofs.Slips as slips
 use Rattle.paper.proofs.Readings as readings
 use Rattle.paper.proofs.Measures as measures
+use Rattle.paper.proofs.Shorts as shorts
 use Rattle.theorems.specs.Unique.{Allowed}
 use Rattle.theorems.proofs.Unique.{unique-measure, unique}
 use Rattle.theorems.proofs.Measured.{measured-fits}
@@ -21,70 +24,76 @@ use Rattle.catalogue.specs.Corollaries.{ended, OneMeasure, OneResult, On
 
 -- ---- one result
 pub one-measure : OneMeasure
-one-measure t w w₁ w₂ r s a b =
-    unique-measure t w (record { measured = r; work = w₁ }) (record { measured = s; work = w₂ })
+one-measure c t w w₁ w₂ r s a b =
+    unique-measure c t w (record { measured = r; work = w₁ }) (record { measured = s; work = w₂ })
     (record { measures = a .measured; work-holds = a .work })
     (record { measures = b .measured; work-holds = b .work })
 
-allowed : {t w w′ f f′ d d′ : List ℕ} {r : Answer} → Writes t w w′ f f′ d d′ r → Allowed t w f d (ended r w′ f′ d′)
-allowed c = record { answers = c .answer; frames-hold = c .frames; diags-hold = c .diags; work-holds = c .work }
+allowed : {c : Setting} {t w w′ f f′ d d′ : List ℕ} {r : Answer} → Writes c t w w′ f f′ d d′ r → Allowed c t w f d (ended r w′ f′ d′)
+allowed x = record { answers = x .answer; frames-hold = x .frames; diags-hold = x .diags; work-holds = x .work }
 
 pub one-result : OneResult
-one-result t w f d w₁ f₁ d₁ w₂ f₂ d₂ r s a b = unique t w f d (ended r w₁ f₁ d₁) (ended s w₂ f₂ d₂) (allowed a) (allowed b)
+one-result c t w f d w₁ f₁ d₁ w₂ f₂ d₂ r s a b = unique c t w f d (ended r w₁ f₁ d₁) (ended s w₂ f₂ d₂) (allowed a) (allowed b)
 
 pub one-found : OneFound
 one-found f l r s a b = a ∙ sym b
 
 -- ---- the writer does as was measured
 pub writes-as-measured : WritesAsMeasured
-writes-as-measured t v v′ w w′ f f′ d d′ m r a b e =
-    let z = measured-fits t (length w) (length f) (length d) in
-    let i : measure t (length w) ≡ m = ap (measure t) e ∙ sym (a .measured) in
+writes-as-measured c t v v′ w w′ f f′ d d′ m r a b e =
+    let z = measured-fits c t (length w) (length f) (length d) in
+    let i : measure c t (length w) ≡ m = ap (measure c t) e ∙ sym (a .measured) in
     record {
       done = λ k x y. b .answer ∙ z .done (i ∙ k) x y;
       refused = λ k. b .answer ∙ z .refused (i ∙ k);
     }
 
 -- ---- the tables
-case-holds : (c : Case) → computed c ≡ expected c → Holds c
+case-holds : (c : Setting) (x : Case) → computed-as c x ≡ expected x → Holds c x
 unfolding operation
-case-holds (lent t w f d gives x) e w′ f′ d′ r c = rw (c .answer, c .frames, c .diags, c .work) e
+case-holds c (lent t w f d gives x) e w′ f′ d′ r y = rw (y .answer, y .frames, y .diags, y .work) e
 
 pub tables-hold : TablesHold
-tables-hold [] e = all-none
-tables-hold (c ∷ l) e =
-    let a : computed c ≡ expected c = cc in
-    let b : map computed l ≡ map expected l = cc in
-    all-more (case-holds c a) (tables-hold l b)
+tables-hold c [] e = all-none
+tables-hold c (x ∷ l) e =
+    let a : computed-as c x ≡ expected x = cc in
+    let b : map (computed-as c) l ≡ map expected l = cc in
+    all-more (case-holds c x a) (tables-hold c l b)
 
-pub bench-holds : All Holds bench.cases
-bench-holds = tables-hold bench.cases bench.bench
+pub bench-holds : All (Holds Full) bench.cases
+bench-holds = tables-hold Full bench.cases bench.bench
 
-pub slips-hold : All Holds slips.cases
-slips-hold = tables-hold slips.cases slips.slips
+pub slips-hold : All (Holds Full) slips.cases
+slips-hold = tables-hold Full slips.cases slips.slips
 
-pub readings-hold : All Holds readings.cases
-readings-hold = tables-hold readings.cases readings.readings
+pub readings-hold : All (Holds Full) readings.cases
+readings-hold = tables-hold Full readings.cases readings.readings
 
-measure-holds : (c : measures.Case) → measures.computed c ≡ measures.expected c → HoldsMeasure c
+pub shorts-hold : All (Holds Short) shorts.cases
+shorts-hold = tables-hold Short shorts.cases shorts.shorts
+
+measure-holds : (c : Setting) (x : measures.Case) → measures.computed c x ≡ measures.expected x → HoldsMeasure c x
 unfolding measures.measurement
-measure-holds (measures.measured-in t w x) e w′ m c = rw (c .measured, c .work) e
+measure-holds c (measures.measured-in t w x) e w′ m y = rw (y .measured, y .work) e
 
 pub measure-tables-hold : MeasureTablesHold
-measure-tables-hold [] e = all-none
-measure-tables-hold (c ∷ l) e =
-    let a : measures.computed c ≡ measures.expected c = cc in
-    let b : map measures.computed l ≡ map measures.expected l = cc in
-    all-more (measure-holds c a) (measure-tables-hold l b)
+measure-tables-hold c [] e = all-none
+measure-tables-hold c (x ∷ l) e =
+    let a : measures.computed c x ≡ measures.expected x = cc in
+    let b : map (measures.computed c) l ≡ map measures.expected l = cc in
+    all-more (measure-holds c x a) (measure-tables-hold c l b)
 
-pub measures-hold : All HoldsMeasure measures.cases
-measures-hold = measure-tables-hold measures.cases measures.measures
+pub measures-hold : All (HoldsMeasure Full) measures.cases
+measures-hold = measure-tables-hold Full measures.cases measures.measures
+
+pub short-measures-hold : All (HoldsMeasure Short) measures.short-cases
+short-measures-hold = measure-tables-hold Short measures.short-cases measures.short-measures
 
 -- ---- demand 3
 pub group-taken-out : GroupTakenOut
 unfolding answer frames-exit diags-exit
-group-taken-out t w f d w₁ f₁ d₁ w₂ f₂ d₂ r s p q a b n g h =
-    let x = demand3 t w f d p q (ap number (sym (a .answer)) ∙ n) g h in
+group-taken-out c t w f d w₁ f₁ d₁ w₂ f₂ d₂ r s p q a b n g h =
+    let x = demand3 c t w f d p q (ap number (sym (a .answer)) ∙ n) g h in
     record {
       streams = x .streams;
       was = a .answer ∙ ap answer-of (x .were);

@@ -4,12 +4,11 @@ use mathlib.Core.Path.{_≡_, refl, sym, ap, _∙_}
 use mathlib.Core.Logic.{_≢_}
 use mathlib.Core.Bool.{Bool, true, false}
 use mathlib.Core.List.{List, [], _∷_, _++_, append-assoc, append-nil}
-use Prim.Native.Nat.{ℕ, _+_, _-_, _*_, _<_, _≤_}
+use Prim.Native.Nat.{ℕ, _+_, _*_, _<_, _≤_}
 use native.Mathlib.Omega.{arith}
 use lib.Dec.{eqb, ltb}
-use lib.ListN.{length, getD, set, length-set, take, drop, length-append, length-drop, take-append-drop}
-use lib.Seq.{take-at, drop-at, drop-drop, length-take-le}
-use borrow.Author.Tests.{eq-eqb, ne-eqb, ltb-true}
+use lib.ListN.{length, getD, set, length-set, length-append}
+use borrow.Author.Tests.{eq-eqb, ne-eqb, lt-ltb, ltb-true}
 use Rattle.paper.specs.Base.{and, not, all, gather}
 use Rattle.paper.specs.Answer.{laid}
 use Rattle.paper.specs.Pairs.{Pair, pair}
@@ -18,89 +17,16 @@ use Rattle.paper.proofs.Tests.{split, clash}
 use Rattle.paper.proofs.Lists.{gather-append}
 use Rattle.stream.specs.Bits.{bit-at, with-bit}
 use Rattle.stream.specs.Wrote.{Wrote}
-use Rattle.stream.proofs.Laid.{length-laid}
 use Rattle.stream.proofs.Wrote.{wrote-then, wrote-as, wrote-to}
 use Rattle.stream.proofs.Records.{length-u16}
 use Rattle.stream.proofs.Rows.{row-width, Wide, lit-up, wide-lit}
 use Rattle.stream.proofs.Setting.{wrote-row-bit, wrote-row-set}
 use Rattle.disjoint.specs.declared.draw.Grid.{Grid}
-use Rattle.disjoint.specs.Found.{both, proper, meets}
+use Rattle.disjoint.specs.Found.{both, distinct, meets}
 use Rattle.disjoint.specs.Drawn.{once, square, Drawing}
-use Rattle.disjoint.proofs.Square.{length-square, wide-square, bit-square, square-more, square-again, once-again, once-out, once-in, once-prefix, length-pairs}
+use Rattle.disjoint.proofs.Square.{length-square, wide-square, bit-square, square-more, square-again, square-beyond, once-again, once-out, once-in, once-prefix, length-pairs}
 use Rattle.disjoint.proofs.Bools.{and-left, and-right}
-
--- ---- bytes laid before others that are laid
-laid-is :
-    (l a x z b : List ℕ) (i : ℕ) → l ≡ a ++ (x ++ z) → length a ≡ i → length x ≡ length b → laid l i b ≡ a ++ (b ++ z)
-unfolding laid
-laid-is l a x z b i e h k =
-    let d : drop (i + length b) (a ++ (x ++ z)) ≡ z =
-    sym (drop-drop (length b) i (a ++ (x ++ z)))
-    ∙ ap (drop (length b)) (drop-at a (x ++ z) i h)
-    ∙ drop-at x z (length b) k in
-    rw (e, take-at a (x ++ z) i h, d)
-
-module _ (l a x y d z b c : List ℕ) (i p : ℕ) (e : l ≡ a ++ (x ++ (y ++ (d ++ z)))) (h : length a ≡ i) (j : length x ≡ length b) (k : length a + (length x + length y) ≡ p) (o : length d ≡ length c) where
-  apart : (t : List ℕ) → a ++ (t ++ (y ++ (d ++ z))) ≡ (a ++ (t ++ y)) ++ (d ++ z)
-  apart t = ap (λ u. a ++ u) (sym (append-assoc t y (d ++ z))) ∙ sym (append-assoc a (t ++ y) (d ++ z))
-
-  size : (t : List ℕ) → length t ≡ length x → length (a ++ (t ++ y)) ≡ p
-  size t q = omega (arith, length-append a (t ++ y), length-append t y, q, k)
-
-  joined : (t : List ℕ) → (a ++ (t ++ y)) ++ (c ++ z) ≡ a ++ (t ++ (y ++ (c ++ z)))
-  joined t = append-assoc a (t ++ y) (c ++ z) ∙ ap (λ u. a ++ u) (append-assoc t y (c ++ z))
-
-  swap-parts : laid (laid l p c) i b ≡ laid (laid l i b) p c
-  swap-parts =
-      let f : laid l p c ≡ a ++ (x ++ (y ++ (c ++ z))) =
-      laid-is l (a ++ (x ++ y)) d z c p (e ∙ apart x) (size x refl) o ∙ joined x in
-      let g : laid l i b ≡ a ++ (b ++ (y ++ (d ++ z))) = laid-is l a x (y ++ (d ++ z)) b i e h j in
-      laid-is (laid l p c) a x (y ++ (c ++ z)) b i f h j
-      ∙ sym (laid-is (laid l i b) (a ++ (b ++ y)) d z c p (g ∙ apart b) (size b (sym j)) o ∙ joined b)
-
-pub laid-swap :
-    (l : List ℕ) (i p : ℕ) (b c : List ℕ) → i + length b ≤ p → p + length c ≤ length l
-    → laid (laid l p c) i b ≡ laid (laid l i b) p c
-laid-swap l i p b c h k =
-    let l₁ = drop i l in
-    let l₂ = drop (length b) l₁ in
-    let n = p - (i + length b) in
-    let l₃ = drop n l₂ in
-    let e₁ : length l₁ ≡ length l - i = length-drop i l in
-    let e₂ : length l₂ ≡ length l₁ - length b = length-drop (length b) l₁ in
-    let e₃ : length l₃ ≡ length l₂ - n = length-drop n l₂ in
-    let f₀ : length (take i l) ≡ i = length-take-le i l (omega arith) in
-    let f₁ : length (take (length b) l₁) ≡ length b = length-take-le (length b) l₁ (omega arith) in
-    let f₂ : length (take n l₂) ≡ n = length-take-le n l₂ (omega arith) in
-    let f₃ : length (take (length c) l₃) ≡ length c = length-take-le (length c) l₃ (omega arith) in
-    swap-parts l (take i l) (take (length b) l₁) (take n l₂) (take (length c) l₃) (drop (length c) l₃) b c i p
-    (sym
-    (ap (λ t. take i l ++ (take (length b) l₁ ++ (take n l₂ ++ t))) (take-append-drop (length c) l₃)
-    ∙ ap (λ t. take i l ++ (take (length b) l₁ ++ t)) (take-append-drop n l₂)
-    ∙ ap (λ t. take i l ++ t) (take-append-drop (length b) l₁)
-    ∙ take-append-drop i l))
-    f₀ f₁ (omega arith) f₃
-
--- a write before another write that stands: as if it had come first
-pub wrote-first :
-    {m b c : List ℕ} {p e q r : ℕ} {x y : List ℕ} → Wrote m b p e x → Wrote b c q r y → r ≤ p → e ≤ length m
-    → Wrote m (laid m q y) q r y
-wrote-first {m} {q = q} {y = y} f g h k =
-    record { place = g .place; len = length-laid m q y (omega (arith, f .place, g .place)); bytes = λ o. refl }
-
-pub wrote-after :
-    {m b c : List ℕ} {p e q r : ℕ} {x y : List ℕ} → Wrote m b p e x → Wrote b c q r y → r ≤ p → e ≤ length m
-    → Wrote (laid m q y) c p e x
-wrote-after {m} {b} {c} {p} {e} {q} {r} {x} {y} f g h k =
-    let n : length (laid m q y) ≡ length m = length-laid m q y (omega (arith, f .place, g .place)) in
-    record {
-      place = f .place;
-      len = g .len ∙ f .len ∙ sym n;
-      bytes = λ o.
-          g .bytes (omega (arith, f .len, f .place))
-          ∙ ap (λ t. laid t q y) (f .bytes k)
-          ∙ laid-swap m q p y x (omega (arith, g .place)) (omega (arith, f .place));
-    }
+use Rattle.disjoint.proofs.Swapped.{wrote-first, wrote-after}
 
 -- ---- the pair that is next
 all-middle : {A : Type 0} (t : A → Bool) (l : List A) (x : A) (r : List A) → all t (l ++ (x ∷ r)) ≡ true → t x ≡ true
@@ -108,21 +34,70 @@ unfolding all
 all-middle t [] x r e = split (t x) (λ q. q) (λ q. absurd (clash (sym (rw q at e))))
 all-middle t (y ∷ l) x r e = split (t y) (λ q. all-middle t l x r (rw q at e)) (λ q. absurd (clash (sym (rw q at e))))
 
+both-fewer : (m v x y : ℕ) → m ≤ v → both v (pair x y) ≡ false → both m (pair x y) ≡ false
+both-fewer m v x y h e =
+    split (both m (pair x y))
+    (λ q.
+    let l = ltb-true x m (and-left (ltb x m) (ltb y m) q) in
+    let r = ltb-true y m (and-right (ltb x m) (ltb y m) q) in
+    absurd (clash (sym (rw (lt-ltb x v (omega (arith, l)), lt-ltb y v (omega (arith, r)))) ∙ e)))
+    (λ q. q)
+
 pub record Next (x y v : ℕ) : Type 0 where
   pub left : x < v
   pub right : y < v
   pub differ : x ≢ y
 
 module _ {a b : List ℕ} {from at v : ℕ} {g : Grid} {s : List Pair} (x y : ℕ) (rest : List Pair) (d : Drawing a b from at v g s (pair x y ∷ rest)) where
-  pub next-pair : Next x y v
-  next-pair =
-      let e : proper v (pair x y) ≡ true = all-middle (proper v) (d .done) (pair x y) rest (ap (all (proper v)) (d .sum) ∙ d .proper-pairs) in
-      let f : and (ltb x v) (ltb y v) ≡ true = and-left (and (ltb x v) (ltb y v)) (not (eqb x y)) e in
+  differ-next : x ≢ y
+  differ-next q =
+      let e : not (eqb x y) ≡ true = all-middle distinct (d .done) (pair x y) rest (ap (all distinct) (d .sum) ∙ d .distinct-pairs) in
+      clash (sym e ∙ ap not (eq-eqb x y q))
+
+  sum-next : (d .done ++ (pair x y ∷ [])) ++ rest ≡ s
+  sum-next = append-assoc (d .done) (pair x y ∷ []) rest ∙ d .sum
+
+  -- a variable without a row: nothing is drawn
+  once-beyond : both v (pair x y) ≡ false → once (g .mandatory) (d .done ++ (pair x y ∷ [])) ≡ once (g .mandatory) (d .done)
+  unfolding meets
+  once-beyond e =
+      split (meets (d .done) x y)
+      (λ q. once-again (g .mandatory) (d .done) (pair x y) q)
+      (λ q. once-out (g .mandatory) (d .done) (pair x y) q (both-fewer (g .mandatory) v x y (d .mandatory) e))
+
+  pub draw-beyond : both v (pair x y) ≡ false → Drawing a b from at v g s rest
+  draw-beyond e =
       record {
-        left = ltb-true x v (and-left (ltb x v) (ltb y v) f);
-        right = ltb-true y v (and-right (ltb x v) (ltb y v) f);
-        differ = λ q. clash (sym (and-right (and (ltb x v) (ltb y v)) (not (eqb x y)) e) ∙ ap not (eq-eqb x y q));
+        done = d .done ++ (pair x y ∷ []);
+        sum = sum-next;
+        mid = d .mid;
+        pairs = wrote-as (d .pairs) (ap (gather pair-bytes) (once-beyond e));
+        rows = wrote-as (d .rows) (ap (gather row-bytes) (square-beyond (d .done) x y v e));
+        fits = d .fits;
+        width = d .width;
+        size = d .size;
+        mandatory = d .mandatory;
+        few = d .few;
+        place = d .place;
+        room = d .room;
+        distinct-pairs = d .distinct-pairs;
       }
+
+  -- no sum wraps
+  pub place-below : at ≤ g .at
+  place-below =
+      omega (
+        arith,
+        d .pairs .place,
+        length-pairs (once (g .mandatory) (d .done)),
+        d .room,
+        once-prefix (g .mandatory) (d .done) (pair x y ∷ rest),
+        ap (λ t. length (once (g .mandatory) t)) (d .sum),
+      )
+
+module _ {a b : List ℕ} {from at v : ℕ} {g : Grid} {s : List Pair} (x y : ℕ) (rest : List Pair) (d : Drawing a b from at v g s (pair x y ∷ rest)) (left : x < v) (right : y < v) where
+  next-pair : Next x y v
+  next-pair = record { left = left; right = right; differ = differ-next x y rest d }
 
   -- the rows lie at whole numbers of bytes
   end-is : g .at + v * g .width ≡ g .at + v * row-width v
@@ -143,9 +118,6 @@ module _ {a b : List ℕ} {from at v : ℕ} {g : Grid} {s : List Pair} (x y : �
       ∙ bit-square (d .done) v x y (n .left) (n .right)
       ∙ rw (ne-eqb x y (n .differ))
 
-  sum-next : (d .done ++ (pair x y ∷ [])) ++ rest ≡ s
-  sum-next = append-assoc (d .done) (pair x y ∷ []) rest ∙ d .sum
-
   -- it was found before
   pub draw-old : bit-at b (g .at + x * g .width) y ≡ true → Drawing a b from at v g s rest
   unfolding meets
@@ -153,16 +125,18 @@ module _ {a b : List ℕ} {from at v : ℕ} {g : Grid} {s : List Pair} (x y : �
       let q : meets (d .done) x y ≡ true = sym pair-met ∙ e in
       record {
         done = d .done ++ (pair x y ∷ []);
-        sum = sum-next;
+        sum = sum-next x y rest d;
         mid = d .mid;
         pairs = wrote-as (d .pairs) (ap (gather pair-bytes) (once-again (g .mandatory) (d .done) (pair x y) q));
         rows = wrote-as (d .rows) (ap (gather row-bytes) (square-again (d .done) x y v q));
         fits = d .fits;
         width = d .width;
+        size = d .size;
+        mandatory = d .mandatory;
         few = d .few;
         place = d .place;
         room = d .room;
-        proper-pairs = d .proper-pairs;
+        distinct-pairs = d .distinct-pairs;
       }
 
   -- its bits are set
@@ -197,16 +171,18 @@ module _ {a b : List ℕ} {from at v : ℕ} {g : Grid} {s : List Pair} (x y : �
     draw-out f =
         record {
           done = d .done ++ (pair x y ∷ []);
-          sum = sum-next;
+          sum = sum-next x y rest d;
           mid = d .mid;
           pairs = wrote-as (d .pairs) (ap (gather pair-bytes) (once-out (g .mandatory) (d .done) (pair x y) unmet f));
           rows = rows-next;
           fits = d .fits;
           width = d .width;
+          size = d .size;
+          mandatory = d .mandatory;
           few = d .few;
           place = d .place;
           room = d .room;
-          proper-pairs = d .proper-pairs;
+          distinct-pairs = d .distinct-pairs;
         }
 
     -- both are, and the pair is written
@@ -231,12 +207,12 @@ module _ {a b : List ℕ} {from at v : ℕ} {g : Grid} {s : List Pair} (x y : �
           ap length n,
           length-append (once (g .mandatory) (d .done)) (pair x y ∷ []),
           once-prefix (g .mandatory) (d .done ++ (pair x y ∷ [])) rest,
-          ap (λ t. length (once (g .mandatory) t)) sum-next,
+          ap (λ t. length (once (g .mandatory) t)) (sum-next x y rest d),
         ) in
         let i : g .at + v * g .width ≤ length (d .mid) = omega (arith, d .fits, d .pairs .len) in
         record {
           done = d .done ++ (pair x y ∷ []);
-          sum = sum-next;
+          sum = sum-next x y rest d;
           mid = laid (d .mid) at (u16 x ++ u16 y);
           pairs = wrote-as (wrote-then (d .pairs) (wrote-first rows-next w h i))
               (ap (gather pair-bytes) n
@@ -245,20 +221,10 @@ module _ {a b : List ℕ} {from at v : ℕ} {g : Grid} {s : List Pair} (x y : �
           rows = wrote-after rows-next w h i;
           fits = d .fits;
           width = d .width;
+          size = d .size;
+          mandatory = d .mandatory;
           few = d .few;
           place = d .place;
           room = d .room;
-          proper-pairs = d .proper-pairs;
+          distinct-pairs = d .distinct-pairs;
         }
-
-  -- no sum wraps
-  pub place-below : at ≤ g .at
-  place-below =
-      omega (
-        arith,
-        d .pairs .place,
-        length-pairs (once (g .mandatory) (d .done)),
-        d .room,
-        once-prefix (g .mandatory) (d .done) (pair x y ∷ rest),
-        ap (λ t. length (once (g .mandatory) t)) (d .sum),
-      )

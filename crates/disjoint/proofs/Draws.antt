@@ -2,7 +2,7 @@
 -- The proofs of the functions cite these.
 use mathlib.Core.Path.{_≡_, refl, sym, ap, _∙_}
 use mathlib.Core.Bool.{true, false}
-use mathlib.Core.List.{List, [], _∷_, _++_, map, append-assoc}
+use mathlib.Core.List.{List, [], _∷_, _++_, map, append-assoc, append-nil}
 use Prim.Native.Nat.{ℕ, _+_, _-_, _*_, _<_, _≤_, _^_}
 use native.Mathlib.Nat.{mul-le-mul-right}
 use native.Mathlib.Numerals.{add-one}
@@ -25,7 +25,7 @@ use Rattle.disjoint.specs.Found.{both}
 use Rattle.disjoint.specs.Words.{number-at, first-of, count-of, numbers, listed}
 use Rattle.disjoint.specs.Drawn.{CanDraw, Drew, pairs-at, CanDrawAt, CanDrawRow, CanDrawAll}
 use Rattle.disjoint.proofs.Words.{length-numbers, number-next}
-use Rattle.disjoint.proofs.Drawn.{next-pair, draw-old, draw-out, draw-in, place-below}
+use Rattle.disjoint.proofs.Drawn.{draw-beyond, draw-old, draw-out, draw-in, place-below}
 use Rattle.disjoint.proofs.Bools.{and-false}
 
 -- ---- one walk after another
@@ -69,13 +69,12 @@ pub record PairFits (x y w at p : ℕ) : Type 0 where
   pub place : p < 2 ^ 60
 
 pub pair-fits :
-    {b : List ℕ} {g : Grid} {at x y : ℕ} → CanDraw b g at (pair x y ∷ []) → PairFits x y (g .width) at (g .at)
-pair-fits {b} {g} {at} {x} {y} c =
+    {b : List ℕ} {g : Grid} {at x y : ℕ} → CanDraw b g at (pair x y ∷ []) → x < g .size → y < g .size → PairFits x y (g .width) at (g .at)
+pair-fits {b} {g} {at} {x} {y} c l r =
     let d = c .drawing in
-    let n = next-pair x y (c .rest) d in
     let w : g .width ≤ 512 = omega (arith, d .width, d .few) in
-    let i : x ≤ 4095 = omega (arith, n .left, d .few) in
-    let j : y ≤ 4095 = omega (arith, n .right, d .few) in
+    let i : x ≤ 4095 = omega (arith, l, d .size, d .few) in
+    let j : y ≤ 4095 = omega (arith, r, d .size, d .few) in
     record {
       left = omega (arith, mul-le-mul-right {m = x} {n = 4095} (g .width) i);
       right = omega (arith, mul-le-mul-right {m = y} {n = 4095} (g .width) j);
@@ -85,9 +84,29 @@ pair-fits {b} {g} {at} {x} {y} c =
       place = d .place;
     }
 
+-- a variable without a row
 module _ (b : List ℕ) (g : Grid) (p x y : ℕ) where
+  pub drew-beyond-left : g .size ≤ x → Drew b b g p p (pair x y ∷ []) []
+  drew-beyond-left h =
+      record { len = refl; sim = λ a from v s rest d. draw-beyond x y rest d (rw (le-ltb x v (omega (arith, h, d .size)))) }
+
+  pub drew-beyond-right : g .size ≤ y → Drew b b g p p (pair x y ∷ []) []
+  drew-beyond-right h =
+      record {
+        len = refl;
+        sim = λ a from v s rest d. draw-beyond x y rest d (rw (le-ltb y v (omega (arith, h, d .size))) (and-false (ltb x v)));
+      }
+
+drew-beyond-all : (b : List ℕ) (g : Grid) (p x : ℕ) (l : List ℕ) → g .size ≤ x → Drew b b g p p (map (pair x) l) []
+drew-beyond-all b g p x [] h = drew-none b g p []
+drew-beyond-all b g p x (y ∷ l) h =
+    let r = map (pair x) l in
+    let z : Drew b b g p p (pair x y ∷ r) r = drew-then (pair x y ∷ []) r (drew-none b g p (pair x y ∷ r)) (drew-beyond-left b g p x y h) in
+    drew-then r [] (drew-as (r ++ []) z (sym (append-nil r))) (drew-beyond-all b g p x l h)
+
+module _ (b : List ℕ) (g : Grid) (p x y : ℕ) (left : x < g .size) (right : y < g .size) where
   pub drew-old : bit-at b (g .at + x * g .width) y ≡ true → Drew b b g p p (pair x y ∷ []) []
-  drew-old e = record { len = refl; sim = λ a from v s rest d. draw-old x y rest d e }
+  drew-old e = record { len = refl; sim = λ a from v s rest d. draw-old x y rest d (omega (arith, left, d .size)) (omega (arith, right, d .size)) e }
 
   module _ (e : bit-at b (g .at + x * g .width) y ≡ false) {c o : List ℕ} (f : c ≡ with-bit b (g .at + x * g .width) y) (h : o ≡ with-bit c (g .at + y * g .width) x) where
     both-bits : o ≡ with-bit (with-bit b (g .at + x * g .width) y) (g .at + y * g .width) x
@@ -97,7 +116,7 @@ module _ (b : List ℕ) (g : Grid) (p x y : ℕ) where
     size = rw both-bits (length-with (with-bit b (g .at + x * g .width) y) (g .at + y * g .width) x ∙ length-with b (g .at + x * g .width) y)
 
     out : both (g .mandatory) (pair x y) ≡ false → Drew b o g p p (pair x y ∷ []) []
-    out q = record { len = size; sim = λ a from v s rest d. draw-out x y rest d e both-bits q }
+    out q = record { len = size; sim = λ a from v s rest d. draw-out x y rest d (omega (arith, left, d .size)) (omega (arith, right, d .size)) e both-bits q }
 
     pub drew-left : g .mandatory ≤ x → Drew b o g p p (pair x y ∷ []) []
     drew-left q = out (rw (le-ltb x (g .mandatory) q))
@@ -112,7 +131,7 @@ module _ (b : List ℕ) (g : Grid) (p x y : ℕ) where
         record {
           len = l .len ∙ k .len ∙ size;
           sim = λ a from v s rest d.
-              draw-in x y rest d e both-bits (rw (lt-ltb x (g .mandatory) i, lt-ltb y (g .mandatory) j)) k l;
+              draw-in x y rest d (omega (arith, left, d .size)) (omega (arith, right, d .size)) e both-bits (rw (lt-ltb x (g .mandatory) i, lt-ltb y (g .mandatory) j)) k l;
         }
 
 -- ---- the i-th number of a row with those right of it
@@ -125,6 +144,14 @@ pub at-begin :
 at-begin w b n row i g p {f} {x} h e d =
     let q : x ≡ getD (numbers w n row) i 0 = number-next w n row i x h (rw e at d) in
     record { drew = drew-as _ (drew-none b g p (pairs-at (numbers w n row) i)) (ap (λ t. map (pair t) (drop (i + 1) (numbers w n row))) (sym q)) }
+
+-- it has no row
+pub at-beyond :
+    (w b : List ℕ) (n row i : ℕ) (g : Grid) (p : ℕ) {f x : ℕ} → i < count-of w row → f ≡ first-of w row
+    → x ≡ number-at w n (f + i) - 1 → g .size ≤ x → Drew b b g p p (pairs-at (numbers w n row) i) []
+at-beyond w b n row i g p {f} {x} h e d l =
+    let q : x ≡ getD (numbers w n row) i 0 = number-next w n row i x h (rw e at d) in
+    rw q at (drew-beyond-all b g p x (drop (i + 1) (numbers w n row)) l)
 
 module _ {w b₀ b : List ℕ} {n row i : ℕ} {g : Grid} {p q x j f k y : ℕ} (h : InvAt w b₀ b n row i g p q x j) (e : f ≡ first-of w row) (c : k ≡ count-of w row) where
   next-is : j < k → y ≡ number-at w n (f + j) - 1 → map (pair x) (drop j (numbers w n row)) ≡ (pair x y ∷ []) ++ map (pair x) (drop (j + 1) (numbers w n row))

@@ -7,6 +7,7 @@ pub mod Words
 pub mod Marks
 pub mod Walks
 pub mod Square
+pub mod Swapped
 pub mod Drawn
 pub mod Draws
 pub mod Refined

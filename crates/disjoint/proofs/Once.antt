@@ -16,7 +16,7 @@ use Rattle.area.specs.Cells.{statement-cell, word}
 use Rattle.sight.specs.Static.{stack}
 use Rattle.sight.specs.Sums.{one}
 use Rattle.sight.proofs.Sums.{sum-same, sum-zero}
-use Rattle.disjoint.specs.Found.{both, proper, meets, partners, count}
+use Rattle.disjoint.specs.Found.{both, distinct, proper, meets, partners, count}
 use Rattle.disjoint.specs.Words.{count-of, numbers, listed, RowNumbered, Stacked}
 use Rattle.disjoint.specs.Drawn.{once}
 use Rattle.disjoint.proofs.New.{any-kept, new-kept}
@@ -103,3 +103,11 @@ listed-proper {w} {n} {v} (suc d) x =
     ap (λ k. all (proper v) (listed w n k)) e
     ∙ ap (all (proper v)) (listed-more w n d)
     ∙ all-join (proper v) (listed w n d) (pairs-in (numbers w n (word w (statement-cell d 11)))) (listed-proper d s) (row-proper (x .row d (omega arith)))
+
+pub proper-distinct : (v : ℕ) (l : List Pair) → all (proper v) l ≡ true → all distinct l ≡ true
+unfolding all
+proper-distinct v [] e = refl
+proper-distinct v (x ∷ l) e =
+    split (proper v x)
+    (λ q. rw (and-right (both v x) (distinct x) q) (proper-distinct v l (rw q at e)))
+    (λ q. absurd (clash (sym (rw q at e))))

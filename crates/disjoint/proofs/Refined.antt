@@ -6,8 +6,8 @@ use mathlib.Core.List.{List, [], _∷_, _++_, map}
 use Prim.Native.Nat.{ℕ, zero, suc, _+_, _<_, _≤_}
 use native.Mathlib.Omega.{arith}
 use lib.ListN.{length, getD, take, drop, take-append-drop}
-use lib.Seq.{length-take-le}
-use Rattle.paper.specs.Base.{gather}
+use lib.Seq.{length-take-le, getD-take}
+use Rattle.paper.specs.Base.{gather, table}
 use Rattle.paper.specs.Tokens.{Token}
 use Rattle.paper.specs.Statements.{Statement}
 use Rattle.paper.specs.Checks.{token, no-token}
@@ -121,6 +121,14 @@ module _ {t w : List ℕ} {n : ℕ} {l : List Statement} {vs : List (List ℕ)} 
         map-map [] = refl
         map-map (y ∷ x) = ap (λ z. index vs (y .bytes) ∷ z) (map-map x)
 
+-- a table over the first of a list
+table-take : {A B : Type 0} (f : A → B) (l : List A) (d : A) (z : ℕ) → z ≤ length l → table (λ i. f (getD l i d)) z ≡ map f (take z l)
+table-take f l d z h =
+    let e : length (take z l) ≡ z = length-take-le z l h in
+    table-same (λ i. f (getD l i d)) (λ i. f (getD (take z l) i d)) z (λ i k. ap f (sym (getD-take z l i d k)))
+    ∙ ap (table (λ i. f (getD (take z l) i d))) (sym e)
+    ∙ table-map f (take z l) d
+
 -- ---- the rows on the stack
 module _ {t w : List ℕ} {n : ℕ} {l : List Statement} {vs : List (List ℕ)} {k m d : ℕ} (x : Active t w n l vs k m d) where
   names-of : (j : ℕ) → j < d → Names l vs (word w (statement-cell j 11))
@@ -156,13 +164,15 @@ module _ {t w : List ℕ} {n : ℕ} {l : List Statement} {vs : List (List ℕ)} 
       let e : length (take m vs) ≡ m = length-take-le m vs (omega (arith, x .mandatory, x .holds .count)) in
       sym (pairs-found (take m vs) (drop m vs) ds ∙ rw (e, take-append-drop m vs, ← listed-found))
 
-  pub active-rows : square (listed w n d) k ≡ rows vs (map (names-at l) (stack w 11 d))
+  -- the rows of the first z variables
+  pub active-rows : (z : ℕ) → z ≤ k → square (listed w n d) z ≡ rows (take z vs) (map (names-at l) (stack w 11 d))
   unfolding square rows
-  active-rows =
+  active-rows z h =
       let ds = map (names-at l) (stack w 11 d) in
-      rw (listed-found, x .holds .count)
-      (table-same _ _ (length vs)
+      let c : z ≤ length vs = omega (arith, h, x .holds .count) in
+      rw listed-found
+      (table-same _ _ z
       (λ i a.
-      table-same _ _ (length vs) (λ j b. sym (apart-found vs (x .holds .numbered .place) ds i j a b))
-      ∙ table-map (apart ds (getD vs i [])) vs [])
-      ∙ table-map (row vs ds) vs [])
+      table-same _ _ z (λ j b. sym (apart-found vs (x .holds .numbered .place) ds i j (omega arith) (omega arith)))
+      ∙ table-take (apart ds (getD vs i [])) vs [] z c)
+      ∙ table-take (row (take z vs) ds) vs [] z c)

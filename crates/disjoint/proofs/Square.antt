@@ -9,11 +9,11 @@ use native.Mathlib.Numerals.{add-one}
 use native.Mathlib.Omega.{arith}
 use lib.Dec.{eqb}
 use lib.ListN.{length, getD, set, replicate, length-append, replicate-append-replicate}
-use borrow.Author.Tests.{eqb-true, eq-eqb, ne-eqb}
+use borrow.Author.Tests.{eqb-true, eq-eqb, ne-eqb, lt-ltb}
 use Rattle.paper.specs.Base.{and, or, not, any, keep, gather, table}
 use Rattle.paper.specs.Pairs.{Pair, pair, same-pair, new-pair, new-pairs}
 use Rattle.paper.specs.Records.{pair-bytes, u16}
-use Rattle.paper.proofs.Tests.{split}
+use Rattle.paper.proofs.Tests.{split, clash}
 use Rattle.paper.proofs.Lists.{keep-append}
 use Rattle.paper.proofs.Tables.{length-table, getD-table, set-table}
 use Rattle.paper.proofs.Made.{table-same}
@@ -105,6 +105,21 @@ square-again s x y v e =
     ∙ split (same-pair (pair a b) (pair x y))
     (λ q. let z : meets s a b ≡ true = meets-same s x y a b q ∙ e in rw z)
     (λ q. rw q (or-false (meets s a b)))))
+
+-- a pair beyond the rows
+beyond-same : (a b x y v : ℕ) → a < v → b < v → both v (pair x y) ≡ false → same-pair (pair a b) (pair x y) ≡ false
+beyond-same a b x y v l m e =
+    rw (
+      both-no a x b y (λ p q. clash (sym (rw (lt-ltb x v (omega (arith, p)), lt-ltb y v (omega (arith, q)))) ∙ e)),
+      both-no a y b x (λ p q. clash (sym (rw (lt-ltb x v (omega (arith, q)), lt-ltb y v (omega (arith, p)))) ∙ e)),
+    )
+
+pub square-beyond : (s : List Pair) (x y v : ℕ) → both v (pair x y) ≡ false → square (s ++ (pair x y ∷ [])) v ≡ square s v
+unfolding square
+square-beyond s x y v e =
+    square-same (bit-of (s ++ (pair x y ∷ []))) (bit-of s) v
+    (λ a b l m.
+    ap (and (not (eqb a b))) (meets-last s (pair x y) a b ∙ rw (beyond-same a b x y v l m e) (or-false (meets s a b))))
 
 -- no pair at all
 table-const : {A : Type 0} (a : A) (n : ℕ) → table (λ i. a) n ≡ replicate n a

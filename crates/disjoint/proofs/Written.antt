@@ -24,16 +24,16 @@ use Rattle.disjoint.specs.Drawn.{once, square, Drawing, Drew, CanDrawAll
 use Rattle.disjoint.specs.Written.{names-at, CanPutDisjoint, PutsDisjoint, word-bytes}
 use Rattle.disjoint.proofs.Square.{length-square, wide-square, square-none, length-pairs}
 use Rattle.disjoint.proofs.Refined.{active-stacked, active-pairs, active-rows}
-use Rattle.disjoint.proofs.Once.{count-once, listed-proper}
+use Rattle.disjoint.proofs.Once.{count-once, listed-proper, proper-distinct}
 
 -- ---- what is asked of the words
 pub put-walk : {w : List ℕ} {n at k m d : ℕ} → CanPutDisjoint w n at k m d → CanCount w n m d
-put-walk {k = k} x =
-    record { v = k; stacked = active-stacked (x .active) (x .few); mandatory = x .active .mandatory }
+put-walk x =
+    record { v = x .k; stacked = active-stacked (x .active) (x .few); mandatory = x .active .mandatory }
 
 pub put-count : {w : List ℕ} {n at k m d : ℕ} → CanPutDisjoint w n at k m d → CanCountAll w n m d
 unfolding mark
-put-count {w} {n} {k = k} {m = m} x =
+put-count {w} {n} x =
     record {
       walk = put-walk x;
       marks = λ i l.
@@ -45,10 +45,13 @@ put-count {w} {n} {k = k} {m = m} x =
 pub pairs-counted :
     {w v : List ℕ} {n at k m d c : ℕ} → CanPutDisjoint w n at k m d → PairCount w v n m d c → c ≡ length (once m (listed w n d))
 unfolding count
-pairs-counted {w} {n = n} {k = k} {m = m} {d = d} x y =
-    y .count ∙ count-once m k (listed w n d) (listed-proper d (active-stacked (x .active) (x .few)))
+pairs-counted {w} {n = n} {m = m} {d = d} x y =
+    y .count ∙ count-once m (x .k) (listed w n d) (listed-proper d (active-stacked (x .active) (x .few)))
 
 -- ---- the sizes
+pub size-few : {w : List ℕ} {n at k m d : ℕ} → CanPutDisjoint w n at k m d → k ≤ 4095
+size-few x = omega (arith, x .most, x .few)
+
 pub rows-size : {k h : ℕ} → k ≤ 4095 → h ≡ (k + 7) / 8 → k * h ≤ 2096640
 rows-size {k} {h} a e = omega (arith, e, mul-le-mul-right {m = k} {n = 4095} h a)
 
@@ -90,19 +93,19 @@ module _ {w v b c : List ℕ} {n at k m d p h from to : ℕ} (x : Laying w v b c
   end-is = omega (arith, x .start, x .room, counted, bytes-size m k (listed w n d) (x .width))
 
   pub lay-place : to + k * h ≤ at + 134217728
-  lay-place = omega (arith, x .start, x .room, x .count .few, rows-size (x .can .few) (x .width))
+  lay-place = omega (arith, x .start, x .room, x .count .few, rows-size (size-few (x .can)) (x .width))
 
   -- what is written by the words is written by the definitions
   puts : {o : List ℕ} → Wrote b o at (to + k * h) (word-bytes m k (listed w n d)) → PutsDisjoint w v b o n at (to + k * h) k m d
-  puts z =
+  puts o =
       record {
         words = x .count .words;
         few = lay-place;
-        sim = λ t l vs a.
-            wrote-as z
+        sim = λ t l vs z a q.
+            wrote-as o
             (sym
             (ap (λ f. u32 (length f) ++ (gather pair-bytes f ++ gather row-bytes (square (listed w n d) k))) (active-pairs a)
-            ∙ ap (λ f. u32 (length (pairs (take m vs) (map (names-at l) (stack w 11 d)))) ++ (gather pair-bytes (pairs (take m vs) (map (names-at l) (stack w 11 d))) ++ gather row-bytes f)) (active-rows a)));
+            ∙ ap (λ f. u32 (length (pairs (take m vs) (map (names-at l) (stack w 11 d)))) ++ (gather pair-bytes (pairs (take m vs) (map (names-at l) (stack w 11 d))) ++ gather row-bytes f)) (active-rows a k q)));
       }
 
   -- too short for all of it
@@ -111,7 +114,7 @@ module _ {w v b c : List ℕ} {n at k m d p h from to : ℕ} (x : Laying w v b c
       puts (record { place = end-is; len = x .wrote .len; bytes = λ f. absurd (omega (arith, x .wrote .len)) })
 
   module _ {o : List ℕ} {e : ℕ} (fits : to + k * h ≤ length c) (zeros : Wrote c o to e (replicate (k * h) 0)) (end : e ≡ to + k * h) where
-    begun : Drawing c o from from k (record { at = to; width = h; mandatory = m }) (listed w n d) (listed w n d ++ [])
+    begun : Drawing c o from from k (record { at = to; width = h; size = k; mandatory = m }) (listed w n d) (listed w n d ++ [])
     unfolding once keep new-pairs gather
     begun =
         record {
@@ -122,28 +125,30 @@ module _ {w v b c : List ℕ} {n at k m d p h from to : ℕ} (x : Laying w v b c
           rows = wrote-as (wrote-to zeros (sym end)) dark;
           fits = fits;
           width = x .width;
-          few = x .can .few;
+          size = refl;
+          mandatory = x .can .least;
+          few = size-few (x .can);
           place = omega (arith, x .start, x .room, x .count .few, x .can .place);
           room = omega (arith, x .room, counted);
-          proper-pairs = listed-proper d (active-stacked (x .can .active) (x .can .few));
+          distinct-pairs = proper-distinct (x .can .k) (listed w n d) (listed-proper d (active-stacked (x .can .active) (x .can .few)));
         }
       where
         dark : gather row-bytes (square [] k) ≡ replicate (k * h) 0
         dark = ap (gather row-bytes) (square-none k) ∙ rows-dark k k ∙ ap (λ i. replicate (k * i) 0) (sym (x .width))
 
-    pub lay-can : CanDrawAll v o n d (record { at = to; width = h; mandatory = m }) from
+    pub lay-can : CanDrawAll v o n d (record { at = to; width = h; size = k; mandatory = m }) from
     lay-can =
         rw (x .count .words)
         (record {
-          walk = record { v = k; stacked = active-stacked (x .can .active) (x .can .few); mandatory = omega arith };
+          walk = record { v = x .can .k; stacked = active-stacked (x .can .active) (x .can .few); mandatory = omega arith };
           draw = record { a = c; from = from; v = k; s = listed w n d; rest = []; drawing = begun };
         })
 
     pub puts-whole :
-        {u : List ℕ} {q : ℕ} → Drew o u (record { at = to; width = h; mandatory = m }) from q (listed v n d) []
+        {u : List ℕ} {q : ℕ} → Drew o u (record { at = to; width = h; size = k; mandatory = m }) from q (listed v n d) []
         → PutsDisjoint w v b u n at (to + k * h) k m d
     puts-whole {u} {q} y =
-        let f : Drawing c u from q k (record { at = to; width = h; mandatory = m }) (listed w n d) [] =
+        let f : Drawing c u from q k (record { at = to; width = h; size = k; mandatory = m }) (listed w n d) [] =
         (rw (x .count .words) at y) .sim c from k (listed w n d) [] begun in
         let g : f .done ≡ listed w n d = sym (append-nil (f .done)) ∙ f .sum in
         let i : Wrote c (f .mid) from q (gather pair-bytes (once m (listed w n d))) =

@@ -11,7 +11,7 @@ use Rattle.paper.specs.Pairs.{Pair, pair, pairs-in, new-pairs}
 use Rattle.paper.specs.Records.{pair-bytes, row-bytes}
 use Rattle.stream.specs.Wrote.{Wrote}
 use Rattle.disjoint.specs.declared.draw.Grid.{Grid}
-use Rattle.disjoint.specs.Found.{both, proper, meets}
+use Rattle.disjoint.specs.Found.{both, distinct, meets}
 use Rattle.disjoint.specs.Words.{numbers, listed, count-of, CanWalk, CanCount}
 
 -- the mandatory pairs, each once
@@ -28,7 +28,8 @@ square-of f v = table (λ i. table (f i) v) v
 unfoldable pub square : List Pair → ℕ → List (List Bool)
 square s v = square-of (bit-of s) v
 
--- the buffer a became b; the pairs of s are drawn but for the last ones, `rest`. Pairs are written from `from` up to `at`
+-- the buffer a became b; the pairs of s are drawn but for the last ones, `rest`. Pairs are written from `from` up to `at`. There
+-- are rows for the first v variables only; a pair beyond them leaves nothing
 pub record Drawing (a b : List ℕ) (from at v : ℕ) (g : Grid) (s rest : List Pair) : Type 0 where
   pub done : List Pair
   pub sum : done ++ rest ≡ s
@@ -37,10 +38,12 @@ pub record Drawing (a b : List ℕ) (from at v : ℕ) (g : Grid) (s rest : List 
   pub rows : Wrote mid b (g .at) (g .at + v * g .width) (gather row-bytes (square done v))
   pub fits : g .at + v * g .width ≤ length a
   pub width : g .width ≡ (v + 7) / 8
+  pub size : g .size ≡ v
+  pub mandatory : g .mandatory ≤ v
   pub few : v ≤ 4095
   pub place : g .at < 2 ^ 60
   pub room : from + 4 * length (once (g .mandatory) s) ≤ g .at
-  pub proper-pairs : all (proper v) s ≡ true
+  pub distinct-pairs : all distinct s ≡ true
 
 -- the pairs l are next
 pub record CanDraw (b : List ℕ) (g : Grid) (at : ℕ) (l : List Pair) : Type 0 where

@@ -20,9 +20,12 @@ found vs d = gather (found-in vs) d
 abbrev pub both : ℕ → Pair → Bool
 both m p = and (ltb (p .left) m) (ltb (p .right) m)
 
--- two numbers that differ, both below m
+-- two numbers that differ, and both below m
+abbrev pub distinct : Pair → Bool
+distinct x = not (eqb (x .left) (x .right))
+
 abbrev pub proper : ℕ → Pair → Bool
-proper m x = and (both m x) (not (eqb (x .left) (x .right)))
+proper m x = and (both m x) (distinct x)
 
 -- whether a pair is among some pairs, in either orientation
 unfoldable pub meets : List Pair → ℕ → ℕ → Bool

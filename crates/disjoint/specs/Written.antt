@@ -1,5 +1,5 @@
 -- What writing the pairs and rows of a frame asks and promises.
--- `k` variables, the first m of them mandatory; d `$d` are active, their rows on the stack in word 11.
+-- `k` variables, the first m of them mandatory, the first z with rows; d `$d` are active, their rows on the stack in word 11.
 use mathlib.Core.Path.{_≡_}
 use mathlib.Core.Logic.{_≢_}
 use mathlib.Core.Bool.{true}
@@ -42,22 +42,25 @@ pub record Active (t w : List ℕ) (n : ℕ) (l : List Statement) (vs : List (Li
   pub depth : d ≤ length l
   pub row : (j : ℕ) → j < d → Names l vs (getD (stack w 11 d) j 0)
 
-pub record CanPutDisjoint (w : List ℕ) (n at k m d : ℕ) : Type 0 where
+pub record CanPutDisjoint (w : List ℕ) (n at z m d : ℕ) : Type 0 where
   pub t : List ℕ
   pub l : List Statement
   pub vs : List (List ℕ)
+  pub k : ℕ
   pub active : Active t w n l vs k m d
   pub few : k ≤ 4095
+  pub least : m ≤ z
+  pub most : z ≤ k
   pub place : at < 2 ^ 59
   -- no mark is left of an earlier statement
   pub marks : (a : ℕ) → a < length (atoms l) → word w (symbol-cell n a 6) ≡ 0
 
-pub record PutsDisjoint (w v b c : List ℕ) (n at r k m d : ℕ) : Type 0 where
+pub record PutsDisjoint (w v b c : List ℕ) (n at r z m d : ℕ) : Type 0 where
   pub words : v ≡ w
   pub few : r ≤ at + 134217728
   pub sim :
-      (t : List ℕ) (l : List Statement) (vs : List (List ℕ)) → Active t w n l vs k m d
-      → Wrote b c at r (disjoint-bytes (take m vs) vs (map (names-at l) (stack w 11 d)))
+      (t : List ℕ) (l : List Statement) (vs : List (List ℕ)) (k : ℕ) → Active t w n l vs k m d → z ≤ k
+      → Wrote b c at r (disjoint-bytes (take m vs) (take z vs) (map (names-at l) (stack w 11 d)))
 
 -- ---- the same by the words alone
 abbrev pub word-bytes : ℕ → ℕ → List Pair → List ℕ

@@ -12,20 +12,27 @@ ghost use Rattle.disjoint.specs.Words.{numbers, listed};
 ghost use Rattle.disjoint.specs.Written.{CanPutDisjoint, PutsDisjoint};
 ghost use Rattle.disjoint.specs.Drawn.{CanDraw, Drew, pairs-at, CanDrawAt, CanDrawRow, CanDrawAll};
 
-/// Where the rows of a frame stand, the bytes of a row, and the number of mandatory variables.
+/// Where the rows of a frame stand, the bytes of a row, how many rows there are, and the number of mandatory variables.
 pub struct Grid {
     pub at: usize,
     pub width: usize,
+    pub size: usize,
     pub mandatory: usize,
 }
 
-/// Sets the bits of two variables, and stores their pair if they were not set and both are mandatory.
+/// Sets the bits of two variables that have rows, and stores their pair if they were not set and both are mandatory.
 pub fn put_pair(buf: &mut [u8], at: usize, g: Grid, x: VariableNumber, y: VariableNumber) -> usize
     requires { ⌜ CanDraw (now buf) g at (pair (x .0) (y .0) ∷ []) ⌝ }
     ensures { λ r. ⌜ Drew (now (buf .entry)) (now (buf .exit)) g at r (pair (x .0) (y .0) ∷ []) [] ⌝ }
 {
     let i = x.0 as usize;
     let j = y.0 as usize;
+    if g.size <= i {
+        return at;
+    }
+    if g.size <= j {
+        return at;
+    }
     let line = g.at + i * g.width;
     if stream::bits::bit_at(buf, line, j) {
         return at;
@@ -42,7 +49,7 @@ pub fn put_pair(buf: &mut [u8], at: usize, g: Grid, x: VariableNumber, y: Variab
     stream::write::put_u16(buf, a, j as u64)
 }
 
-/// The pairs of the i-th token of a `$d` with those right of it.
+/// The pairs of the i-th token of a `$d` with those right of it; none if it has no row.
 pub fn put_pairs_at(
     work: &[u32],
     n: usize,
@@ -60,6 +67,9 @@ pub fn put_pairs_at(
     let first = cells::of_statement(work, n, line, area::FIRST) as usize;
     let count = cells::of_statement(work, n, line, area::COUNT) as usize;
     let x = tally::number(work, n, TokenRow((first + k) as u32));
+    if g.size <= x.0 as usize {
+        return at;
+    }
     let mut a = at;
     let mut j = k + 1;
     while j < count {
@@ -107,32 +117,34 @@ pub fn put_pairs(work: &[u32], n: usize, buf: &mut [u8], at: usize, g: Grid, ds:
     a
 }
 
-/// The number of mandatory pairs, the pairs, and the rows. If they do not all fit, only the place after them is answered.
+/// The number of mandatory pairs, the pairs, and the rows of the first `size` variables. If they do not all fit, only the
+/// place after them is answered.
 pub fn put_disjoint(
     work: &mut [u32],
     n: usize,
     buf: &mut [u8],
     at: usize,
-    vars: usize,
+    size: usize,
     mandatory: usize,
     ds: usize,
 ) -> usize
-    requires { ⌜ CanPutDisjoint (now work) n at vars mandatory ds ⌝ }
-    ensures { λ r. ⌜ PutsDisjoint (now (work .entry)) (now (work .exit)) (now (buf .entry)) (now (buf .exit)) n at r vars mandatory ds ⌝ }
+    requires { ⌜ CanPutDisjoint (now work) n at size mandatory ds ⌝ }
+    ensures { λ r. ⌜ PutsDisjoint (now (work .entry)) (now (work .exit)) (now (buf .entry)) (now (buf .exit)) n at r size mandatory ds ⌝ }
 {
     let pairs = tally::pair_count(work, n, mandatory, ds);
-    let width = (vars + 7) / 8;
-    let size = vars * width;
+    let width = (size + 7) / 8;
+    let bytes = size * width;
     let body = stream::write::put_u32(buf, at, pairs as u64);
     let rows = body + 4 * pairs;
-    let end = rows + size;
+    let end = rows + bytes;
     if buf.len() < end {
         return end;
     }
-    stream::write::put_zeros(buf, rows, size);
+    stream::write::put_zeros(buf, rows, bytes);
     let g = Grid {
         at: rows,
         width,
+        size,
         mandatory,
     };
     put_pairs(work, n, buf, body, g, ds);

@@ -14,6 +14,7 @@ use Rattle.paper.specs.Frames.{Frame}
 use Rattle.paper.specs.Give.{gives, all-given}
 use Rattle.paper.specs.Records.{frame-records, frame-stream}
 use Rattle.paper.specs.Answer.{crowded, frame-at, frames-in}
+use Rattle.paper.specs.declared.Setting.{Setting}
 use Rattle.paper.proofs.Lists.{gather-append, find-append}
 use Rattle.paper.proofs.Alls.{All, all-first}
 use Rattle.area.specs.Cells.{statement-cell, word}
@@ -54,12 +55,13 @@ frames-more l k =
     (gather-append (λ g. g .frame) (table (given-at l) k) (given-at l k ∷ [])
     ∙ ap (λ (m : List Frame). frames-in (table (given-at l) k) ++ m) (append-nil (given-at l k .frame)))
 
-records-more : (l : List Statement) (k : ℕ) → gather frame-records (table (given-at l) (k + 1)) ≡ gather frame-records (table (given-at l) k) ++ frame-records (given-at l k)
+records-more : (c : Setting) (l : List Statement) (k : ℕ)
+    → gather (frame-records c) (table (given-at l) (k + 1)) ≡ gather (frame-records c) (table (given-at l) k) ++ frame-records c (given-at l k)
 unfolding table gather
-records-more l k =
+records-more c l k =
     rw add-one
-    (gather-append frame-records (table (given-at l) k) (given-at l k ∷ [])
-    ∙ ap (λ (m : List ℕ). gather frame-records (table (given-at l) k) ++ m) (append-nil (frame-records (given-at l k))))
+    (gather-append (frame-records c) (table (given-at l) k) (given-at l k ∷ [])
+    ∙ ap (λ (m : List ℕ). gather (frame-records c) (table (given-at l) k) ++ m) (append-nil (frame-records c (given-at l k))))
 
 -- the first crowded frame
 crowded-first : (l : List Statement) (k : ℕ) (f : Frame) → k < length l → find crowded (frames-in (table (given-at l) k)) ≡ none → given-at l k .frame ≡ f ∷ []
@@ -78,20 +80,20 @@ frame-offset l k f e =
     all-first a
 
 -- ---- so many statements are done
-pub record Far (w b₀ b : List ℕ) (n : ℕ) (l : List Statement) (at count k : ℕ) : Type 0 where
+pub record Far (c : Setting) (w b₀ b : List ℕ) (n : ℕ) (l : List Statement) (at count k : ℕ) : Type 0 where
   pub free : Numbered w n l []
   pub few : find crowded (frames-in (table (given-at l) k)) ≡ none
-  pub told : Wrote b₀ b 0 at (gather frame-records (table (given-at l) k))
+  pub told : Wrote b₀ b 0 at (gather (frame-records c) (table (given-at l) k))
   pub place : at ≤ 4294967300 * k
   pub counted : count ≡ length (frames-in (table (given-at l) k))
 
-pub record InvFold (t w₀ w b₀ b o₀ o : List ℕ) (n rows : ℕ) (st : Scope) (at count k : ℕ) : Type 0 where
+pub record InvFold (c : Setting) (t w₀ w b₀ b o₀ o : List ℕ) (n rows : ℕ) (st : Scope) (at count k : ℕ) : Type 0 where
   pub checks : laws.InvRows t w₀ w o₀ o n rows st k
   pub len : length b ≡ length b₀
   pub few : count ≤ k
-  pub sim : {l : List Statement} → Blank t w₀ n rows l → Far w b₀ b n l at count k
+  pub sim : {l : List Statement} → Blank t w₀ n rows l → Far c w b₀ b n l at count k
 
-pub fold-start : {t w b o : List ℕ} {n rows : ℕ} → InvFold t w w b b o o n rows (record { es = 0; ds = 0; diags = 0 }) 0 0 0
+pub fold-start : {c : Setting} {t w b o : List ℕ} {n rows : ℕ} → InvFold c t w w b b o o n rows (record { es = 0; ds = 0; diags = 0 }) 0 0 0
 unfolding table gather find
 fold-start {b = b} =
     record {
@@ -101,7 +103,7 @@ fold-start {b = b} =
       sim = λ {l} x. record { free = x .unframed .free; few = refl; told = wrote-none b 0; place = omega arith; counted = refl };
     }
 
-module _ {t w₀ w b₀ b o₀ o : List ℕ} {n rows : ℕ} {st : Scope} {at count k : ℕ} (h : k < rows) (x : InvFold t w₀ w b₀ b o₀ o n rows st at count k) where
+module _ {c : Setting} {t w₀ w b₀ b o₀ o : List ℕ} {n rows : ℕ} {st : Scope} {at count k : ℕ} (h : k < rows) (x : InvFold c t w₀ w b₀ b o₀ o n rows st at count k) where
   before-of : {l : List Statement} → Blank t w₀ n rows l → Before t w n l st k
   before-of z =
       record {
@@ -116,7 +118,7 @@ module _ {t w₀ w b₀ b o₀ o : List ℕ} {n rows : ℕ} {st : Scope} {at cou
         omega (arith, x .sim (z .holds) .place, c .count, c .named .shape .few, c .room .small),
       )
 
-  pub can-count : {r c : ℕ} → SomeBlank t w₀ n rows → Stored at r c → count + c < 4294967296
+  pub can-count : {r i : ℕ} → SomeBlank t w₀ n rows → Stored at r i → count + i < 4294967296
   can-count z e = let b = z .holds .checks in omega (arith, at-most-one e, x .few, b .count, b .named .shape .few, b .room .small)
 
   -- the row is still there
@@ -125,20 +127,20 @@ module _ {t w₀ w b₀ b o₀ o : List ℕ} {n rows : ℕ} {st : Scope} {at cou
       let c = laws.before-of h (x .checks) (z .holds .checks) in
       (record { room = omega (arith, e, c .room .room); small = c .room .small }, laws.before-room c)
 
-  far-more : {l : List Statement} {u b′ : List ℕ} {r c : ℕ} → Blank t w₀ n rows l → Numbered u n l [] → Told b b′ at (given-at l k) (After r) → Stored at r c
-      → Far u b₀ b′ n l r (count + c) (k + 1)
+  far-more : {l : List Statement} {u b′ : List ℕ} {r i : ℕ} → Blank t w₀ n rows l → Numbered u n l [] → Told c b b′ at (given-at l k) (After r) → Stored at r i
+      → Far c u b₀ b′ n l r (count + i) (k + 1)
   far-more {l} z free (told none-here wrote) e =
       let f = x .sim z in
       record {
         free = free;
         few = rw (frames-more l k) (find-append crowded (frames-in (table (given-at l) k)) (given-at l k .frame) ∙ rw (f .few, none-here));
-        told = wrote-as (wrote-then (f .told) wrote) (records-more l k);
-        place = omega (arith, f .place, wrote .place, z .unframed .short k (omega (arith, h, z .checks .count)) none-here);
-        counted = rw (frames-more l k) (omega (arith, f .counted, moved l k (wrote .place) e, length-append (frames-in (table (given-at l) k)) (given-at l k .frame)));
+        told = wrote-as (wrote-then (f .told) wrote) (records-more c l k);
+        place = omega (arith, f .place, wrote .place, z .unframed .short c k (omega (arith, h, z .checks .count)) none-here);
+        counted = rw (frames-more l k) (omega (arith, f .counted, moved c l k (wrote .place) e, length-append (frames-in (table (given-at l) k)) (given-at l k .frame)));
       }
 
-  pub fold-next : {u b′ o′ : List ℕ} {s : Scope} {r c : ℕ} → length o′ ≡ length o → Stepped t w u b b′ o o′ n st at k (step.Next s r) → Stored at r c
-      → InvFold t w₀ u b₀ b′ o₀ o′ n rows s r (count + c) (k + 1)
+  pub fold-next : {u b′ o′ : List ℕ} {s : Scope} {r i : ℕ} → length o′ ≡ length o → Stepped c t w u b b′ o o′ n st at k (step.Next s r) → Stored at r i
+      → InvFold c t w₀ u b₀ b′ o₀ o′ n rows s r (count + i) (k + 1)
   fold-next {r = r} len (fold.next y z) e =
       record {
         checks = rows-renumbered (z .kept) (laws.rows-step h (x .checks) y len);
@@ -148,19 +150,19 @@ module _ {t w₀ w b₀ b o₀ o : List ℕ} {n rows : ℕ} {st : Scope} {at cou
       }
 
   -- ---- the end at a frame with too many variables
-  over-first : {u b′ o′ : List ℕ} {l : List Statement} {s : Scope} {p : ℕ} → Blank t w₀ n rows l → laws.InvRows t w₀ u o₀ o′ n rows s (k + 1) → Told b b′ at (given-at l k) TooMany
-      → p ≡ word u (statement-cell k 1) → Streamed b₀ b′ o₀ o′ (all-given l) (folded.TooMany (record { 0 = p }))
-  over-first {l = l} {p = p} a m (over f g c) e =
+  over-first : {u b′ o′ : List ℕ} {l : List Statement} {s : Scope} {p : ℕ} → Blank t w₀ n rows l → laws.InvRows t w₀ u o₀ o′ n rows s (k + 1) → Told c b b′ at (given-at l k) TooMany
+      → p ≡ word u (statement-cell k 1) → Streamed c b₀ b′ o₀ o′ (all-given l) (folded.TooMany (record { 0 = p }))
+  over-first {l = l} {p = p} a m (over f g j) e =
       let i : k < length l = omega (arith, h, a .checks .count) in
       let q : p ≡ frame-at f =
       e
       ∙ m .kept .low k 1 (omega (arith, i, a .checks .named .shape .few)) (omega arith) (omega arith)
       ∙ a .checks .named .shape .at k i
       ∙ sym (frame-offset l k f g) in
-      rw q (crowd f (crowded-first l k f i (x .sim a .few) g c))
+      rw q (crowd f (crowded-first l k f i (x .sim a .few) g j))
 
-  pub fold-over : {u b′ o′ : List ℕ} {p : ℕ} → length o′ ≡ length o → Stepped t w u b b′ o o′ n st at k step.Over → p ≡ word u (statement-cell k 1)
-      → FoldsBlank t w₀ u b₀ b′ o₀ o′ n rows (folded.TooMany (record { 0 = p }))
+  pub fold-over : {u b′ o′ : List ℕ} {p : ℕ} → length o′ ≡ length o → Stepped c t w u b b′ o o′ n st at k step.Over → p ≡ word u (statement-cell k 1)
+      → FoldsBlank c t w₀ u b₀ b′ o₀ o′ n rows (folded.TooMany (record { 0 = p }))
   fold-over len (fold.over y z) e =
       let m = rows-renumbered (z .kept) (laws.rows-step h (x .checks) y len) in
       record {
@@ -173,21 +175,21 @@ module _ {t w₀ w b₀ b o₀ o : List ℕ} {n rows : ℕ} {st : Scope} {at cou
       }
 
 -- ---- the end after all
-pub fold-end : {t w₀ w b₀ b o₀ o : List ℕ} {n rows : ℕ} {st : Scope} {at count k : ℕ} → rows ≤ k → InvFold t w₀ w b₀ b o₀ o n rows st at count k
-    → FoldsBlank t w₀ w b₀ b o₀ o n rows (folded.Streams at (st .diags) count)
+pub fold-end : {c : Setting} {t w₀ w b₀ b o₀ o : List ℕ} {n rows : ℕ} {st : Scope} {at count k : ℕ} → rows ≤ k → InvFold c t w₀ w b₀ b o₀ o n rows st at count k
+    → FoldsBlank c t w₀ w b₀ b o₀ o n rows (folded.Streams at (st .diags) count)
 unfolding frame-stream
-fold-end {k = k} h x =
-    let c = laws.rows-end h (x .checks) in
+fold-end {c = c} {k = k} h x =
+    let z = laws.rows-end h (x .checks) in
     record {
-      kept = c .kept;
+      kept = z .kept;
       frames = x .len;
       diags = x .checks .len;
       sim = λ {l} a.
           let f = x .sim a in
-          let y = c .sim (a .checks) in
+          let y = z .sim (a .checks) in
           let e : all-given l ≡ table (given-at l) k = all-given-table l ∙ ap (table (given-at l)) (omega (arith, h, x .checks .upto, a .checks .count)) in (
             record { marks = y .marks; free = f .free },
-            streams (ap (λ m. find crowded (frames-in m)) e ∙ f .few) (wrote-as (f .told) (ap (gather frame-records) e)) (y .diags)
+            streams (ap (λ m. find crowded (frames-in m)) e ∙ f .few) (wrote-as (f .told) (ap (gather (frame-records c)) e)) (y .diags)
                 (f .counted ∙ ap (λ m. length (frames-in m)) (sym e)),
           );
     }
@@ -209,7 +211,7 @@ some-blank f x = record { of = x .of; holds = blank-of f (x .holds) }
 pub whole-names : {t w : List ℕ} {n rows names : ℕ} → SomeWhole t w n rows names → Room w n × (names ≤ n)
 whole-names x = laws.names-fit (record { of = x .of; holds = x .holds .checks })
 
-pub folds-all : {t w v u b b′ o o′ : List ℕ} {n rows names : ℕ} {r : Folded} → checks.Forgotten w v n names → FoldsBlank t v u b b′ o o′ n rows r → FoldsAll t w u b b′ o o′ n rows names r
+pub folds-all : {e : Setting} {t w v u b b′ o o′ : List ℕ} {n rows names : ℕ} {r : Folded} → checks.Forgotten w v n names → FoldsBlank e t v u b b′ o o′ n rows r → FoldsAll e t w u b b′ o o′ n rows names r
 folds-all f x =
     let m = kept-then (kept-wide 8 12 2 7 (omega arith) (omega arith) (omega arith) (omega arith) (f .kept)) (x .kept) in
     record {

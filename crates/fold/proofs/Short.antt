@@ -29,5 +29,5 @@ all-table {P = P} f (suc n) k a h =
     all-table f n k (all-left (table f n) (f n ∷ []) a) (omega (arith, z)))
 
 pub short-of : (t : List ℕ) (w : ℕ) (l : List Statement) → reading t w ≡ given l → Short l
-short-of t w l e k h =
-    all-table (given-at l) (length l) k (rw (all-given-table l) at (records-short t w l e)) h
+short-of t w l e c k h =
+    all-table (given-at l) (length l) k (rw (all-given-table l) at (records-short c t w l e)) h

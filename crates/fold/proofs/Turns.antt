@@ -8,9 +8,11 @@ use Prim.Native.Nat.{ℕ, _+_, _*_, _<_, _≤_}
 use native.Mathlib.Omega.{arith}
 use Rattle.paper.specs.Base.{choose, find, gather}
 use Rattle.paper.specs.Statements.{Kind, $c, $v, $d, $f, $e, $a, $p, Statement}
-use Rattle.paper.specs.Frames.{Frame}
+use Rattle.paper.specs.Frames.{Frame, frame-as}
 use Rattle.paper.specs.Give.{Given}
 use Rattle.paper.specs.Records.{frame-record, frame-records}
+use Rattle.paper.specs.declared.Setting.{Setting}
+use Rattle.paper.specs.declared.Setting.the-variants as setting
 use Rattle.paper.specs.Answer.{crowded}
 use Rattle.paper.proofs.Tests.{split}
 use Rattle.area.specs.Cells.{statement-cell, word}
@@ -36,17 +38,24 @@ use Rattle.fold.proofs.Floats.{active-rows}
 use Rattle.fold.proofs.Framing.{framing-of, frame-given}
 
 -- ---- no record, and one
-told-none : {b : List ℕ} {at : ℕ} (g : Given) → g .frame ≡ [] → Told b b at g (After at)
+told-none : (c : Setting) {b : List ℕ} {at : ℕ} (g : Given) → g .frame ≡ [] → Told c b b at g (After at)
 unfolding find frame-records gather
-told-none {b} {at} g e = told (rw e) (wrote-as (wrote-none b at) (rw e))
+told-none c {b} {at} g e = told (rw e) (wrote-as (wrote-none b at) (rw e))
 
-told-one : {b b′ : List ℕ} {at r : ℕ} (g : Given) (x : Frame) → g .frame ≡ x ∷ [] → crowded x ≡ false → Wrote b b′ at r (frame-record x) → Told b b′ at g (After r)
+told-one : (c : Setting) {b b′ : List ℕ} {at r : ℕ} (g : Given) (x : Frame) → g .frame ≡ x ∷ [] → crowded x ≡ false
+    → Wrote b b′ at r (frame-record (frame-as c x)) → Told c b b′ at g (After r)
 unfolding find frame-records gather
-told-one g x e c w = told (rw (e, c)) (wrote-as w (rw e (append-nil (frame-record x))))
+told-one c g x e q w = told (rw (e, q)) (wrote-as w (rw e (append-nil (frame-record (frame-as c x)))))
 
-by-built : {b b′ : List ℕ} {at : ℕ} {r : Built} (g : Given) (x : Frame) → g .frame ≡ x ∷ [] → Built-as b b′ at x r → Told b b′ at g r
-by-built g x e (built c w) = told-one g x e c w
-by-built g x e (frames.over c s) = over x e c
+by-built : (c : Setting) {b b′ : List ℕ} {at : ℕ} {r : Built} (g : Given) (x : Frame) → g .frame ≡ x ∷ [] → Built-as c b b′ at x r → Told c b b′ at g r
+by-built c g x e (built q w) = told-one c g x e q w
+by-built c g x e (frames.over q s) = over x e q
+
+-- that of a `$f` is the same under each setting
+stub-as : (c : Setting) (s : Statement) → frame-as c (stub-of s) ≡ stub-of s
+unfolding stub-of
+stub-as setting.Short s = refl
+stub-as setting.Full s = refl
 
 -- ---- kinds by their numbers
 assertion-kind : (q : Kind) → 6 ≤ kind-number q → 0 < record-kind q
@@ -98,18 +107,18 @@ module _ {t w : List ℕ} {n : ℕ} {st : Scope} {k : ℕ} where
   turn-room x = let b = x .holds in (b .room, omega (arith, b .inside, b .named .shape .few))
 
   -- ---- nothing
-  quiet : {b : List ℕ} {at : ℕ} → ((l : List Statement) → Turn t w n l st k → given-at l k .frame ≡ []) → Turned t w w n st k b b at (After at)
-  quiet f =
+  quiet : {c : Setting} {b : List ℕ} {at : ℕ} → ((l : List Statement) → Turn t w n l st k → given-at l k .frame ≡ []) → Turned c t w w n st k b b at (After at)
+  quiet {c} f =
       record {
         kept = renumbered-none n w;
         len = refl;
-        sim = λ {l} x. (x .free, told-none (given-at l k) (f l x));
+        sim = λ {l} x. (x .free, told-none c (given-at l k) (f l x));
       }
 
-  pub turn-rejected : {b : List ℕ} {at : ℕ} → word w (statement-cell k 8) ≡ 0 → Turned t w w n st k b b at (After at)
+  pub turn-rejected : {c : Setting} {b : List ℕ} {at : ℕ} → word w (statement-cell k 8) ≡ 0 → Turned c t w w n st k b b at (After at)
   turn-rejected h = quiet (λ l x. gives-rejected l k (is-rejected x h))
 
-  pub turn-none : {b : List ℕ} {at : ℕ} → word w (statement-cell k 0) ≢ 4 → word w (statement-cell k 0) < 6 → Turned t w w n st k b b at (After at)
+  pub turn-none : {c : Setting} {b : List ℕ} {at : ℕ} → word w (statement-cell k 0) ≢ 4 → word w (statement-cell k 0) < 6 → Turned c t w w n st k b b at (After at)
   turn-none h g =
       quiet
       (λ l x.
@@ -120,17 +129,18 @@ module _ {t w : List ℕ} {n : ℕ} {st : Scope} {k : ℕ} where
   pub can-stub : SomeTurn t w n st k → word w (statement-cell k 0) ≡ 4 → CanStub t w n k
   can-stub x h = record { l = x .of; holds = float-of (x .holds) h }
 
-  pub turn-stub : {b b′ : List ℕ} {at r : ℕ} → SomeTurn t w n st k → word w (statement-cell k 8) ≢ 0 → word w (statement-cell k 0) ≡ 4
-      → Stubs t w n k b b′ at r → Turned t w w n st k b b′ at (After r)
+  pub turn-stub : {c : Setting} {b b′ : List ℕ} {at r : ℕ} → SomeTurn t w n st k → word w (statement-cell k 8) ≢ 0 → word w (statement-cell k 0) ≡ 4
+      → Stubs t w n k b b′ at r → Turned c t w w n st k b b′ at (After r)
   unfolding stub-of
-  turn-stub x a h s =
+  turn-stub {c} x a h s =
       record {
         kept = renumbered-none n w;
         len = s .sim (x .of) (float-of (x .holds) h) .len;
         sim = λ {l} y. (
           y .free,
-          told-one (given-at l k) (stub-of (stmt l k))
-              (gives-stub l k (float-of y h .kind) (is-accepted y a)) refl (s .sim l (float-of y h)),
+          told-one c (given-at l k) (stub-of (stmt l k))
+              (gives-stub l k (float-of y h .kind) (is-accepted y a)) refl
+              (wrote-as (s .sim l (float-of y h)) (ap frame-record (stub-as c (stmt l k)))),
         );
       }
 
@@ -143,9 +153,9 @@ module _ {t w : List ℕ} {n : ℕ} {st : Scope} {k : ℕ} where
         holds = framing-of (x .holds) (assertion-kind (stmt (x .of) k .kind) (omega (arith, kind-word (x .holds)))) (is-accepted (x .holds) a);
       }
 
-  pub turn-full : {v b b′ : List ℕ} {at : ℕ} {r : Built} → word w (statement-cell k 8) ≢ 0 → 6 ≤ word w (statement-cell k 0)
-      → Frames t w v n k (st .es) (st .ds) b b′ at r → Turned t w v n st k b b′ at r
-  turn-full a h f =
+  pub turn-full : {c : Setting} {v b b′ : List ℕ} {at : ℕ} {r : Built} → word w (statement-cell k 8) ≢ 0 → 6 ≤ word w (statement-cell k 0)
+      → Frames c t w v n k (st .es) (st .ds) b b′ at r → Turned c t w v n st k b b′ at r
+  turn-full {c} a h f =
       record {
         kept = f .kept;
         len = f .len;
@@ -153,6 +163,6 @@ module _ {t w : List ℕ} {n : ℕ} {st : Scope} {k : ℕ} where
             let q = assertion-kind (stmt l k .kind) (omega (arith, kind-word x)) in
             let y = f .sim l (active-rows l k) (framing-of x q (is-accepted x a)) in (
               y .0,
-              by-built (given-at l k) (frame-at l (active-rows l k) (stack w 11 (st .ds)) k) (frame-given x q (is-accepted x a)) (y .1),
+              by-built c (given-at l k) (frame-at l (active-rows l k) (stack w 11 (st .ds)) k) (frame-given x q (is-accepted x a)) (y .1),
             );
       }

@@ -12,6 +12,7 @@ use Rattle.paper.specs.Frames.{Frame}
 use Rattle.paper.specs.Give.{Given}
 use Rattle.paper.specs.Records.{frame-records}
 use Rattle.paper.specs.Answer.{crowded}
+use Rattle.paper.specs.declared.Setting.{Setting}
 use Rattle.stream.specs.Wrote.{Wrote}
 use Rattle.reader.specs.Rows.{stmt}
 use Rattle.facts.specs.Facts.{Facts}
@@ -39,12 +40,12 @@ pub record SomeTurn (t w : List ℕ) (n : ℕ) (st : Scope) (k : ℕ) : Type 0 w
   pub of : List Statement
   pub holds : Turn t w n of st k
 
--- the frame records of what a statement gives, written with the place after them; or its frame has over 4,095 variables
-pub data Told (b b′ : List ℕ) (at : ℕ) (g : Given) : Built → Type 0 where
-  told : {r : ℕ} → find crowded (g .frame) ≡ none → Wrote b b′ at r (frame-records g) → Told b b′ at g (After r)
-  over : (x : Frame) → g .frame ≡ x ∷ [] → crowded x ≡ true → Told b b′ at g TooMany
+-- the frame records of what a statement gives, as the setting c has them, written with the place after them; or its frame has over 4,095 variables
+pub data Told (c : Setting) (b b′ : List ℕ) (at : ℕ) (g : Given) : Built → Type 0 where
+  told : {r : ℕ} → find crowded (g .frame) ≡ none → Wrote b b′ at r (frame-records c g) → Told c b b′ at g (After r)
+  over : (x : Frame) → g .frame ≡ x ∷ [] → crowded x ≡ true → Told c b b′ at g TooMany
 
-pub record Turned (t w v : List ℕ) (n : ℕ) (st : Scope) (k : ℕ) (b b′ : List ℕ) (at : ℕ) (r : Built) : Type 0 where
+pub record Turned (c : Setting) (t w v : List ℕ) (n : ℕ) (st : Scope) (k : ℕ) (b b′ : List ℕ) (at : ℕ) (r : Built) : Type 0 where
   pub kept : Renumbered n w v
   pub len : length b′ ≡ length b
-  pub sim : {l : List Statement} → Turn t w n l st k → Numbered v n l [] × Told b b′ at (given-at l k) r
+  pub sim : {l : List Statement} → Turn t w n l st k → Numbered v n l [] × Told c b b′ at (given-at l k) r

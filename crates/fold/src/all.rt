@@ -2,6 +2,7 @@
 // The words of the names are as they were when the next statement is looked at.
 use crate::turn::frame_statement;
 use frames::assert::Built;
+use paper::Setting;
 use paper::StatementOffset;
 use paper::StatementRow;
 use scopeck::Scope;
@@ -33,12 +34,13 @@ pub fn fold_statement(
     st: Scope,
     at: usize,
     row: StatementRow,
+    setting: Setting,
 ) -> Step
     requires { ⌜ SomeBefore (now text) (now work) n st (row .0) × (at < 2 ^ 56) ⌝ }
-    ensures { λ r. ⌜ Stepped (now (text .entry)) (now (work .entry)) (now (work .exit)) (now (frames .entry)) (now (frames .exit)) (now (diags .entry)) (now (diags .exit)) n st at (row .0) r ⌝ }
+    ensures { λ r. ⌜ Stepped setting (now (text .entry)) (now (work .entry)) (now (work .exit)) (now (frames .entry)) (now (frames .exit)) (now (diags .entry)) (now (diags .exit)) n st at (row .0) r ⌝ }
 {
     let next = check_statement(text, work, n, diags, st, row.0 as usize);
-    match frame_statement(text, work, n, frames, at, next, row) {
+    match frame_statement(text, work, n, frames, at, next, row, setting) {
         Built::After(after) => Step::Next(next, after),
         Built::TooMany => Step::Over,
     }
@@ -62,9 +64,10 @@ pub fn fold_rows(
     frames: &mut [u8],
     diags: &mut [u8],
     rows: usize,
+    setting: Setting,
 ) -> Folded
     requires { ⌜ SomeBlank (now text) (now work) n rows ⌝ }
-    ensures { λ r. ⌜ FoldsBlank (now (text .entry)) (now (work .entry)) (now (work .exit)) (now (frames .entry)) (now (frames .exit)) (now (diags .entry)) (now (diags .exit)) n rows r ⌝ }
+    ensures { λ r. ⌜ FoldsBlank setting (now (text .entry)) (now (work .entry)) (now (work .exit)) (now (frames .entry)) (now (frames .exit)) (now (diags .entry)) (now (diags .exit)) n rows r ⌝ }
 {
     let mut st = Scope {
         es: 0,
@@ -84,6 +87,7 @@ pub fn fold_rows(
             st,
             at,
             StatementRow(row as u32),
+            setting,
         ) {
             Step::Next(next, after) => {
                 count += stored(at, after);
@@ -111,10 +115,11 @@ pub fn fold_all(
     diags: &mut [u8],
     rows: usize,
     names: usize,
+    setting: Setting,
 ) -> Folded
     requires { ⌜ SomeWhole (now text) (now work) n rows names ⌝ }
-    ensures { λ r. ⌜ FoldsAll (now (text .entry)) (now (work .entry)) (now (work .exit)) (now (frames .entry)) (now (frames .exit)) (now (diags .entry)) (now (diags .exit)) n rows names r ⌝ }
+    ensures { λ r. ⌜ FoldsAll setting (now (text .entry)) (now (work .entry)) (now (work .exit)) (now (frames .entry)) (now (frames .exit)) (now (diags .entry)) (now (diags .exit)) n rows names r ⌝ }
 {
     forget_all(work, n, names);
-    fold_rows(text, work, n, frames, diags, rows)
+    fold_rows(text, work, n, frames, diags, rows, setting)
 }

@@ -3,6 +3,7 @@
 use frames::assert::Built;
 use frames::assert::construct_full_frame;
 use frames::stub::construct_stub_frame;
+use paper::Setting;
 use paper::StatementRow;
 use scopeck::Scope;
 use slots::cells::of_statement;
@@ -18,9 +19,10 @@ pub fn frame_statement(
     at: usize,
     st: Scope,
     row: StatementRow,
+    setting: Setting,
 ) -> Built
     requires { ⌜ SomeTurn (now text) (now work) n st (row .0) × (at < 2 ^ 56) ⌝ }
-    ensures { λ r. ⌜ Turned (now (text .entry)) (now (work .entry)) (now (work .exit)) n st (row .0) (now (frames .entry)) (now (frames .exit)) at r ⌝ }
+    ensures { λ r. ⌜ Turned setting (now (text .entry)) (now (work .entry)) (now (work .exit)) n st (row .0) (now (frames .entry)) (now (frames .exit)) at r ⌝ }
 {
     let line = row.0 as usize;
     if of_statement(work, n, line, area::ACCEPTED) == 0 {
@@ -33,5 +35,5 @@ pub fn frame_statement(
     if kind < 6 {
         return Built::After(at);
     }
-    construct_full_frame(text, work, n, frames, at, row, st.es, st.ds)
+    construct_full_frame(text, work, n, frames, at, row, st.es, st.ds, setting)
 }

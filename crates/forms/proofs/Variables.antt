@@ -4,7 +4,8 @@ use mathlib.Core.Path.{_≡_, sym, ap, _∙_}
 use mathlib.Core.List.{List, [], _++_}
 use Prim.Native.Nat.{ℕ, _+_, _*_, _<_, _≤_}
 use native.Mathlib.Omega.{arith}
-use lib.ListN.{length, getD}
+use lib.ListN.{length, getD, take}
+use lib.Seq.{getD-take, length-take-le}
 use Rattle.paper.specs.Base.{gather, table}
 use Rattle.paper.specs.Statements.{Statement}
 use Rattle.paper.specs.Records.{string}
@@ -32,20 +33,22 @@ module _ {t w : List ℕ} {n : ℕ} {l : List Statement} {vs : List (List ℕ)} 
       ∙ ap (name-of l) (e .bucket)
       ∙ name-of-atom l (getD vs j []) (e .occurs)
 
-  pub var-words : VarWords t w n (length vs)
-  var-words =
+  pub var-words : (k : ℕ) → k ≤ length vs → VarWords t w n k
+  var-words k f =
       record {
         room = h .holds .named .shape .room;
         small = h .holds .small;
-        few = omega (arith, vars-few h, h .holds .named .few);
-        names = λ j k. name-words h (word w (bucket-cell n j)) (bucket-in j k);
+        few = omega (arith, f, vars-few h, h .holds .named .few);
+        names = λ j i. name-words h (word w (bucket-cell n j)) (bucket-in j (omega arith));
       }
 
-  pub names-are : names-of t w n (length vs) ≡ vs
+  names-first : (k : ℕ) → k ≤ length vs → names-of t w n k ≡ take k vs
   unfolding names-of
-  names-are =
-      table-same (λ j. name-bytes t w n (word w (bucket-cell n j))) (λ j. getD vs j []) (length vs) bucket-name
-      ∙ table-list vs []
+  names-first k f =
+      table-same (λ j. name-bytes t w n (word w (bucket-cell n j))) (λ j. getD (take k vs) j []) k
+      (λ j i. bucket-name j (omega arith) ∙ sym (getD-take k vs j [] i))
+      ∙ ap (table (λ j. getD (take k vs) j [])) (sym (length-take-le k vs f))
+      ∙ table-list (take k vs) []
 
 -- ---- the walk
 pub record InvNames (t w b₀ b : List ℕ) (n vars at a k : ℕ) : Type 0 where
@@ -78,5 +81,5 @@ names-end {t} {w} {b₀} {b} {n} {vars} {at} {a} {k} h l =
     let e : k ≡ vars = omega (arith, h .upto) in
     record {
       few = omega (arith, h .few);
-      sim = λ s vs r q. wrote-as (h .wrote) (ap (gather string) (sym (names-are r) ∙ ap (names-of t w n) (sym (e ∙ q))));
+      sim = λ s vs r q. wrote-as (h .wrote) (ap (gather string) (sym (names-first r vars q) ∙ ap (names-of t w n) (sym e)));
     }

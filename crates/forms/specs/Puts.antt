@@ -3,7 +3,7 @@
 use mathlib.Core.Path.{_≡_}
 use mathlib.Core.List.{List, _++_}
 use Prim.Native.Nat.{ℕ, _+_, _*_, _<_, _≤_}
-use lib.ListN.{length}
+use lib.ListN.{length, take}
 use Rattle.paper.specs.Base.{gather}
 use Rattle.paper.specs.Statements.{Statement}
 use Rattle.paper.specs.Expressions.{pool-of}
@@ -14,10 +14,10 @@ use Rattle.sight.specs.Static.{static, stack}
 use Rattle.forms.specs.Words.{stack-constants, stack-size, Before, essential-row}
 use Rattle.forms.specs.Ready.{Ready}
 
--- the names of k variables
+-- the names of the first k variables
 pub record PutNames (t w : List ℕ) (n k : ℕ) (b b′ : List ℕ) (at r : ℕ) : Type 0 where
   pub few : r ≤ at + 16777220 * k
-  pub sim : (l : List Statement) (vs : List (List ℕ)) → Ready t w n l vs → k ≡ length vs → Wrote b b′ at r (gather string vs)
+  pub sim : (l : List Statement) (vs : List (List ℕ)) → Ready t w n l vs → k ≤ length vs → Wrote b b′ at r (gather string (take k vs))
 
 -- the constants of es active `$e`, and how many bytes they are
 pub record PutStack (t w : List ℕ) (n es : ℕ) (b b′ : List ℕ) (at r : ℕ) : Type 0 where

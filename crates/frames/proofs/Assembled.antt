@@ -137,10 +137,10 @@ module _ {t w : List ℕ} {n : ℕ} {l : List Statement} {h : List ℕ} {row es 
       })
 
   pub whole-of :
-      {v : List ℕ} {k c : ℕ} → Renumbered n w v → Holds t v n l (scanned-rows l 0 (stack w 11 ds) (needed l h row)) c
-      → k ≡ length (needed l h row) → c ≤ 4095
-      → Whole t v n l h (scanned-rows l 0 (stack w 11 ds) (needed l h row)) (needed l h row) row es ds c k
-  whole-of {v} {k} {c} x y e few =
+      {v : List ℕ} {k c z : ℕ} → Renumbered n w v → Holds t v n l (scanned-rows l 0 (stack w 11 ds) (needed l h row)) c
+      → k ≡ length (needed l h row) → c ≤ 4095 → k ≤ z → z ≤ c
+      → Whole t v n l h (scanned-rows l 0 (stack w 11 ds) (needed l h row)) (needed l h row) row es ds z k
+  whole-of {v} {k} {c} x y e few least most =
       let g = rows-grown l 0 (stack w 11 ds) (needed l h row) in
       record {
         hand =
@@ -160,15 +160,16 @@ module _ {t w : List ℕ} {n : ℕ} {l : List Statement} {h : List ℕ} {row es 
                     covers = cover;
                   };
               covers = λ z q. covered z (static-member l (stmt l row) (scanned-rows l 1 (stack w 10 es) []) z q);
-              count = y .count;
-              few = few;
+              most = omega (arith, most, y .count);
+              few = omega (arith, few, y .count);
             };
         active =
             record {
-              holds = y;
-              mandatory = omega (arith, e, y .count, grown-length g);
+              holds = record { named = y .named; small = y .small; numbered = y .numbered; count = refl };
+              mandatory = omega (arith, e, grown-length g);
               depth = f .depth;
               row = λ j q. named-at x j q;
             };
+        least = least;
         marks = λ a q. x .marks a (omega (arith, q, names-few)) ∙ f .marks a q;
       }

@@ -5,7 +5,7 @@ use mathlib.Core.List.{List, map}
 use Prim.Native.Nat.{ℕ, _+_, _-_, _<_, _≤_, _^_}
 use native.Mathlib.Omega.{arith}
 use lib.ListN.{length, take}
-use lib.Seq.{take-append-seam}
+use lib.Seq.{take-append-seam, length-take-le}
 use Rattle.paper.specs.Base.{gather}
 use Rattle.paper.specs.Statements.{Statement}
 use Rattle.paper.specs.Expressions.{pooled}
@@ -37,7 +37,7 @@ module _ {t w : List ℕ} {n row es v k : ℕ} (c : SomeInHand t w n row es v k)
   hand-front = record { l = c .l; holds = c .holds .assertion }
 
   pub hand-names : VarWords t w n v
-  hand-names = rw (c .holds .count) (var-words (c .holds .hyps .ready))
+  hand-names = var-words (c .holds .hyps .ready) v (c .holds .most)
 
   pub hand-stack : StackWords t w n es
   hand-stack = stack-words (c .holds .hyps)
@@ -65,7 +65,7 @@ module _ {t w : List ℕ} {n row es v k : ℕ} (c : SomeInHand t w n row es v k)
   hand-small = c .holds .assertion .small
 
   pub hand-few : v ≤ 4095
-  hand-few = c .holds .few
+  hand-few = omega (arith, c .holds .most, c .holds .few)
 
 -- ---- variables and pool
 pub head-put :
@@ -78,10 +78,10 @@ head-put {t} {w} {n = n} {row = row} {es = es} {v = v} {k = k} c f g h =
       few = omega (arith, f .few, g .few, h .few, hand-small c, hand-few c);
       sim = λ l hs vs m x.
           let a : Wrote _ _ _ _ (front (stmt l row) v k) = f .sim l (x .assertion) in
-          let d = g .sim l vs (x .hyps .ready) (x .count) in
+          let d = g .sim l vs (x .hyps .ready) (x .most) in
           let e = h .sim l vs (x .hyps .ready) (x .hyps .here) (λ j i. essential-inside (x .hyps) j i) in
           wrote-as (wrote-then a (wrote-then d e))
-          (rw (← x .count, ← x .hyps .count, pool-is (x .hyps)));
+          (rw (length-take-le v vs (x .most), ← x .hyps .count, pool-is (x .hyps)));
     }
 
 -- ---- hypotheses and target
@@ -113,23 +113,26 @@ whole-disjoint {t} c h =
       t = t;
       l = c .l;
       vs = c .vs;
+      k = length (c .vs);
       active = c .holds .active;
       few = c .holds .hand .few;
+      least = c .holds .least;
+      most = c .holds .hand .most;
       place = h;
       marks = c .holds .marks;
     }
 
-grown-front : {m vs : List (List ℕ)} {k : ℕ} → Grown m vs → k ≡ length m → take k vs ≡ m
+pub grown-front : {m vs : List (List ℕ)} {k : ℕ} → Grown m vs → k ≡ length m → take k vs ≡ m
 grown-front {m} {vs} {k} g e = rw (e, g .is) (take-append-seam m (g .more))
 
 body-put :
     {t w u b b₁ b₂ b₃ : List ℕ} {n row es ds v k at p q r : ℕ} (l : List Statement) (h : List ℕ) (vs m : List (List ℕ))
     → Whole t w n l h vs m row es ds v k → PutHead t w n row es v k b b₁ at p → PutMiddle t w n row es v k b₁ b₂ p q
-    → PutsDisjoint w u b₂ b₃ n q r v k ds → Wrote b b₃ at r (body l h (stack w 11 ds) vs m row)
+    → PutsDisjoint w u b₂ b₃ n q r v k ds → Wrote b b₃ at r (body l h (stack w 11 ds) (take v vs) m row)
 unfolding body
 body-put {t} {w} {ds = ds} l h vs m x f g d =
     wrote-as
-    (wrote-then (f .sim l h vs m (x .hand)) (wrote-then (g .sim l h vs m (x .hand)) (d .sim t l vs (x .active))))
+    (wrote-then (f .sim l h vs m (x .hand)) (wrote-then (g .sim l h vs m (x .hand)) (d .sim t l vs (length vs) (x .active) (x .hand .most))))
     (rw (grown-front (x .hand .hyps .grown) (x .hand .hyps .count)))
 
 pub frame-after :
@@ -142,13 +145,13 @@ pub frame-put :
     {t w u b b₁ b₂ b₃ b₄ : List ℕ} {n row es ds v k at p q r z : ℕ} → SomeWhole t w n row es ds v k
     → PutHead t w n row es v k b b₁ (at + 4) p → PutMiddle t w n row es v k b₁ b₂ p q → PutsDisjoint w u b₂ b₃ n q r v k ds
     → (z ≡ at + 4) × Wrote b₃ b₄ at z (u32 (r - (at + 4))) → PutFrame t w u n row es ds v k b b₄ at r
-frame-put {w = w} {row = row} {ds = ds} {at = at} {r = r} c f g d y =
+frame-put {w = w} {row = row} {ds = ds} {v = v} {at = at} {r = r} c f g d y =
     record {
       words = d .words;
       few = omega (arith, f .few, g .few, d .few);
       sim = λ l h vs m x.
           let a = body-put l h vs m x f g d in
-          let e : r - (at + 4) ≡ length (body l h (stack w 11 ds) vs m row) = omega (arith, a .place) in
+          let e : r - (at + 4) ≡ length (body l h (stack w 11 ds) (take v vs) m row) = omega (arith, a .place) in
           let z : Wrote _ _ at (at + 4) (u32 (r - (at + 4))) = rw (y .0) at (y .1) in
           wrote-as (wrote-front a z) (rw (← e));
     }

@@ -1,14 +1,19 @@
 -- The stages of an assertion's frame: three walks number its variables, the record is written, the numbers are taken away.
 -- For all that the words stand for.
-use mathlib.Core.Path.{_≡_, refl, sym, _∙_}
+use mathlib.Core.Path.{_≡_, refl, sym, ap, _∙_}
 use mathlib.Core.List.{List, [], _++_, map}
 use Prim.Native.Nat.{ℕ, _<_, _≤_, zero, suc}
 use native.Mathlib.Omega.{arith}
-use lib.ListN.{length, getD}
+use lib.ListN.{length, getD, take}
+use lib.Seq.{take-length}
 use borrow.Author.Tests.{lt-ltb, le-ltb}
 use Rattle.paper.specs.Statements.{Statement}
 use Rattle.paper.specs.Variables.{mandatory}
+use Rattle.paper.specs.Frames.{frame-as}
 use Rattle.paper.specs.Records.{u32, frame-record}
+use Rattle.paper.specs.declared.Setting.{Setting}
+use Rattle.paper.specs.declared.Setting.the-variants as setting
+use Rattle.paper.proofs.Names.{grown-length}
 use Rattle.paper.proofs.Alls.{All, all-none, all-more}
 use Rattle.stream.proofs.Wrote.{wrote-as}
 use Rattle.reader.specs.Rows.{stmt}
@@ -18,8 +23,10 @@ use Rattle.sight.proofs.Numbering.{renumbered-then}
 use Rattle.sight.proofs.Stacks.{stack-length}
 use Rattle.frames.specs.declared.assert.Built.the-variants.{After, TooMany}
 use Rattle.frames.specs.InHand.{body, Whole, SomeWhole, PutFrame}
-use Rattle.frames.specs.Assert.{frame-at, needed, Apart, Framing, SomeFraming, built, over, Frames}
-use Rattle.frames.proofs.Body.{frame-body}
+use Rattle.frames.specs.Assert.{frame-at, needed, Apart, Framing, SomeFraming, drawn-of, built, over, Frames}
+use Rattle.frames.proofs.Body.{frame-body, short-body}
+use Rattle.frames.proofs.Scanned.{rows-grown}
+use Rattle.frames.proofs.Parts.{grown-front}
 use Rattle.frames.proofs.Assembled.{stack-renumbered, needed-is, all-variables, crowded-is, whole-of}
 
 -- ---- what is written is the definition's record
@@ -34,6 +41,23 @@ frame-is {w = w} {l = l} {h = h} {row = row} {ds = ds} f =
   where
     needed-def : (l : List Statement) (h : List ℕ) (row : ℕ) → needed l h row ≡ mandatory (map (row-hyp l) h) (static l (stmt l row))
     needed-def l h row = refl
+
+-- the same of the short frame
+short-is :
+    {t w : List ℕ} {n : ℕ} {l : List Statement} {h : List ℕ} {row es ds : ℕ} → (f : Framing t w n l h row es ds)
+    → frame-record (frame-as setting.Short (frame-at l h (stack w 11 ds) row))
+    ≡ u32 (length (body l h (stack w 11 ds) (needed l h row) (needed l h row) row)) ++ body l h (stack w 11 ds) (needed l h row) (needed l h row) row
+unfolding frame-at needed
+short-is {w = w} {l = l} {h = h} {row = row} {ds = ds} f = short-body l h (stack w 11 ds) (needed l h row) row (f .ordered) refl
+
+-- how many variables are written
+pub drawn-least : (c : Setting) {v m : ℕ} → m ≤ v → m ≤ drawn-of c v m
+drawn-least setting.Short h = omega arith
+drawn-least setting.Full h = h
+
+pub drawn-most : (c : Setting) {v m : ℕ} → m ≤ v → drawn-of c v m ≤ v
+drawn-most setting.Short h = h
+drawn-most setting.Full h = omega arith
 
 -- ---- the first walk: the active `$e`
 begun : {t w : List ℕ} {n : ℕ} {l : List Statement} {h : List ℕ} {row es ds : ℕ} → Framing t w n l h row es ds → Holds t w n l [] 0
@@ -122,24 +146,31 @@ module _ {t w w₁ : List ℕ} {n row es ds a : ℕ} (s₁ : ScansAll w w₁ n 0
             holds = third-holds (c .l) (c .h) (c .holds);
           }
 
-      whole-at : (l : List Statement) (h : List ℕ) → (f : Framing t w n l h row es ds) → v ≤ 4095
-          → Whole t w₃ n l h (scanned-rows l 0 (stack w 11 ds) (needed l h row)) (needed l h row) row es ds v m
-      whole-at l h f few = whole-of f (renumbered-then (renumbered-then (s₁ .kept) (s₂ .kept)) (s₃ .kept)) (third-holds l h f) (second-holds l h f .count) few
+      mandatory-few : (l : List Statement) (h : List ℕ) → Framing t w n l h row es ds → m ≤ v
+      mandatory-few l h f =
+          omega (arith, second-holds l h f .count, third-holds l h f .count, grown-length (rows-grown l 0 (stack w 11 ds) (needed l h row)))
 
-      pub frame-whole : SomeFraming t w n row es ds → v ≤ 4095 → SomeWhole t w₃ n row es ds v m
-      frame-whole c few =
+      whole-at : (e : Setting) (l : List Statement) (h : List ℕ) → (f : Framing t w n l h row es ds) → v ≤ 4095 → {z : ℕ} → z ≡ drawn-of e v m
+          → Whole t w₃ n l h (scanned-rows l 0 (stack w 11 ds) (needed l h row)) (needed l h row) row es ds z m
+      whole-at e l h f few q =
+          let k = mandatory-few l h f in
+          whole-of f (renumbered-then (renumbered-then (s₁ .kept) (s₂ .kept)) (s₃ .kept)) (third-holds l h f) (second-holds l h f .count) few
+          (omega (arith, q, drawn-least e k)) (omega (arith, q, drawn-most e k))
+
+      pub frame-whole : (e : Setting) → SomeFraming t w n row es ds → v ≤ 4095 → {z : ℕ} → z ≡ drawn-of e v m → SomeWhole t w₃ n row es ds z m
+      frame-whole e c few q =
           record {
             l = c .l;
             h = c .h;
             vs = scanned-rows (c .l) 0 (stack w 11 ds) (needed (c .l) (c .h) row);
             m = needed (c .l) (c .h) row;
-            holds = whole-at (c .l) (c .h) (c .holds) few;
+            holds = whole-at e (c .l) (c .h) (c .holds) few q;
           }
 
       -- ---- too many variables
       pub frames-over :
-          {u b : List ℕ} {at : ℕ} → 4095 < v → Forgets w₃ u n v → Frames t w u n row es ds b b at TooMany
-      frames-over big g =
+          (e : Setting) {u b : List ℕ} {at : ℕ} → 4095 < v → Forgets w₃ u n v → Frames e t w u n row es ds b b at TooMany
+      frames-over e big g =
           record {
             kept = renumbered-then (renumbered-then (renumbered-then (s₁ .kept) (s₂ .kept)) (s₃ .kept)) (g .kept);
             len = refl;
@@ -151,9 +182,9 @@ module _ {t w w₁ : List ℕ} {n row es ds a : ℕ} (s₁ : ScansAll w w₁ n 0
 
       -- ---- written
       pub frames-built :
-          {u₁ u₂ b b′ : List ℕ} {at r : ℕ} → v ≤ 4095 → PutFrame t w₃ u₁ n row es ds v m b b′ at r → length b′ ≡ length b
-          → Forgets u₁ u₂ n v → Frames t w u₂ n row es ds b b′ at (After r)
-      frames-built few p len g =
+          (e : Setting) {u₁ u₂ b b′ : List ℕ} {at r z : ℕ} → v ≤ 4095 → z ≡ drawn-of e v m → PutFrame t w₃ u₁ n row es ds z m b b′ at r
+          → length b′ ≡ length b → Forgets u₁ u₂ n v → Frames e t w u₂ n row es ds b b′ at (After r)
+      frames-built e {z = z} few q p len g =
           record {
             kept = renumbered-then (renumbered-then (renumbered-then (s₁ .kept) (s₂ .kept)) (s₃ .kept)) (rw (p .words) at (g .kept));
             len = len;
@@ -161,15 +192,24 @@ module _ {t w w₁ : List ℕ} {n row es ds a : ℕ} (s₁ : ScansAll w w₁ n 0
                 let vs = scanned-rows l 0 (stack w 11 ds) (needed l h row) in (
                   g .sim t l vs (rw (sym (p .words)) at (third-holds l h f)) .numbered,
                   built (crowded-is f ∙ le-ltb 4095 (length vs) (omega (arith, few, third-holds l h f .count)))
-                      (wrote-as (p .sim l h vs (needed l h row) (whole-at l h f few)) (is-record l h f)),
+                      (wrote-as (p .sim l h vs (needed l h row) (whole-at e l h f few q)) (is-record e q l h f)),
                 );
           }
         where
+          same-rows : (l : List Statement) (h : List ℕ) → Framing t w n l h row es ds → stack w₃ 11 ds ≡ stack w 11 ds
+          same-rows l h f =
+              stack-renumbered 11 ds (renumbered-then (renumbered-then (s₁ .kept) (s₂ .kept)) (s₃ .kept)) (omega arith) (omega (arith, f .assertion .named .shape .few, f .depth))
+
           is-record :
-              (l : List Statement) (h : List ℕ) (f : Framing t w n l h row es ds)
-              → frame-record (frame-at l h (stack w 11 ds) row)
-              ≡ u32 (length (body l h (stack w₃ 11 ds) (scanned-rows l 0 (stack w 11 ds) (needed l h row)) (needed l h row) row))
-              ++ body l h (stack w₃ 11 ds) (scanned-rows l 0 (stack w 11 ds) (needed l h row)) (needed l h row) row
-          is-record l h f =
-              let e = stack-renumbered 11 ds (renumbered-then (renumbered-then (s₁ .kept) (s₂ .kept)) (s₃ .kept)) (omega arith) (omega (arith, f .assertion .named .shape .few, f .depth)) in
-              rw e (frame-is f)
+              (e : Setting) → z ≡ drawn-of e v m → (l : List Statement) (h : List ℕ) (f : Framing t w n l h row es ds)
+              → frame-record (frame-as e (frame-at l h (stack w 11 ds) row))
+              ≡ u32 (length (body l h (stack w₃ 11 ds) (take z (scanned-rows l 0 (stack w 11 ds) (needed l h row))) (needed l h row) row))
+              ++ body l h (stack w₃ 11 ds) (take z (scanned-rows l 0 (stack w 11 ds) (needed l h row))) (needed l h row) row
+          is-record setting.Full q l h f =
+              let vs = scanned-rows l 0 (stack w 11 ds) (needed l h row) in
+              let k : take z vs ≡ vs = ap (λ i. take i vs) (q ∙ third-holds l h f .count) ∙ take-length vs in
+              rw (same-rows l h f, k) (frame-is f)
+          is-record setting.Short q l h f =
+              let vs = scanned-rows l 0 (stack w 11 ds) (needed l h row) in
+              let k : take z vs ≡ needed l h row = grown-front (rows-grown l 0 (stack w 11 ds) (needed l h row)) (q ∙ second-holds l h f .count) in
+              rw (same-rows l h f, k) (short-is f)

@@ -10,9 +10,11 @@ use Rattle.paper.specs.Statements.{Statement}
 use Rattle.paper.specs.Checks.{token}
 use Rattle.paper.specs.Variables.{mandatory}
 use Rattle.paper.specs.Pairs.{in-order}
-use Rattle.paper.specs.Frames.{Frame, frame-of}
+use Rattle.paper.specs.Frames.{Frame, frame-of, frame-as}
 use Rattle.paper.specs.Records.{frame-record}
 use Rattle.paper.specs.Answer.{crowded}
+use Rattle.paper.specs.declared.Setting.{Setting}
+use Rattle.paper.specs.declared.Setting.the-variants as setting
 use Rattle.paper.proofs.Alls.{All}
 use Rattle.area.specs.Cells.{symbol-cell, word}
 use Rattle.stream.specs.Wrote.{Wrote}
@@ -61,14 +63,19 @@ pub record SomeFraming (t w : List ℕ) (n row es ds : ℕ) : Type 0 where
   pub h : List ℕ
   pub holds : Framing t w n l h row es ds
 
--- written, with the place after it; or with over 4,095 variables
-pub data Built-as (b b′ : List ℕ) (at : ℕ) (x : Frame) : Built → Type 0 where
-  built : {r : ℕ} → crowded x ≡ false → Wrote b b′ at r (frame-record x) → Built-as b b′ at x (After r)
-  over : crowded x ≡ true → b′ ≡ b → Built-as b b′ at x TooMany
+-- how many variables are written, of v variables of which the first m are mandatory
+abbrev pub drawn-of : Setting → ℕ → ℕ → ℕ
+drawn-of setting.Short v m = m
+drawn-of setting.Full v m = v
 
-pub record Frames (t w v : List ℕ) (n row es ds : ℕ) (b b′ : List ℕ) (at : ℕ) (r : Built) : Type 0 where
+-- written as the setting c has it, with the place after it; or with over 4,095 variables
+pub data Built-as (c : Setting) (b b′ : List ℕ) (at : ℕ) (x : Frame) : Built → Type 0 where
+  built : {r : ℕ} → crowded x ≡ false → Wrote b b′ at r (frame-record (frame-as c x)) → Built-as c b b′ at x (After r)
+  over : crowded x ≡ true → b′ ≡ b → Built-as c b b′ at x TooMany
+
+pub record Frames (c : Setting) (t w v : List ℕ) (n row es ds : ℕ) (b b′ : List ℕ) (at : ℕ) (r : Built) : Type 0 where
   pub kept : Renumbered n w v
   pub len : length b′ ≡ length b
   pub sim :
       (l : List Statement) (h : List ℕ) → Framing t w n l h row es ds
-      → Numbered v n l [] × Built-as b b′ at (frame-at l h (stack w 11 ds) row) r
+      → Numbered v n l [] × Built-as c b b′ at (frame-at l h (stack w 11 ds) row) r

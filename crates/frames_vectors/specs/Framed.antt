@@ -4,9 +4,10 @@ use mathlib.Core.List.{List}
 use Prim.Native.Nat.{ℕ}
 use Rattle.paper.specs.Statements.{Statement}
 use Rattle.paper.specs.Give.{all-given}
+use Rattle.paper.specs.declared.Setting.the-variants.{Full}
 use Rattle.fold.specs.declared.all.Folded.{Folded}
 use Rattle.fold.specs.Fold.{Streamed}
 use Rattle.fold.specs.Start.{Held}
 
 pub record Framed (t w : List ℕ) (rows : ℕ) (b b′ o o′ : List ℕ) (r : Folded) : Type 0 where
-  pub sim : {l : List Statement} → Held t w rows l → Streamed b b′ o o′ (all-given l) r
+  pub sim : {l : List Statement} → Held t w rows l → Streamed Full b b′ o o′ (all-given l) r

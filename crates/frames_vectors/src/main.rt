@@ -6,6 +6,7 @@ use fold::all::Folded;
 use fold::all::fold_all;
 use fold::start::start;
 use paper::Reading;
+use paper::Setting;
 use stream::walk::u32_at;
 use stream::write::put_u32;
 ghost use mathlib.Core.Path.{_≡_};
@@ -26,7 +27,7 @@ fn frame_read(
     ensures { λ r. ⌜ Framed (now (text .entry)) (now (work .entry)) rows (now (frames .entry)) (now (frames .exit)) (now (diags .entry)) (now (diags .exit)) r ⌝ }
 {
     let s = start(text, work, rows);
-    fold_all(text, work, s.n, frames, diags, rows, s.names)
+    fold_all(text, work, s.n, frames, diags, rows, s.names, Setting::Full)
 }
 
 fn write_number(x: u64) {

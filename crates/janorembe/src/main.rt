@@ -1,7 +1,8 @@
-// The program: a text of up to 8,192 bytes and 1,023 tokens on standard input. It writes the frames, then the
-// diagnostics, to standard output, or nothing if the text is refused or longer.
+// The program: a text of up to 8,192 bytes and 1,023 tokens on standard input. It writes the frames, with mandatory variables
+// only, then the diagnostics, to standard output, or nothing if the text is refused or longer.
 use paper::Answer;
 use paper::Measured;
+use paper::Setting;
 
 const MOST_BYTES: usize = 8192;
 // For 1,023 tokens: one more is number 2.
@@ -19,7 +20,7 @@ const DIAGS: usize = 36864;
 
 // Writes both streams of a text into buffers of just their lengths, and then out.
 fn write_both(text: &[u8], work: &mut [u32], frames: &mut [u8], diags: &mut [u8]) {
-    match catalogue::write(text, work, frames, diags) {
+    match catalogue::write(text, work, frames, diags, Setting::Short) {
         Answer::Refused(_) => {}
         Answer::Done(_, _, _) => {
             io::write_all(1, frames);
@@ -30,7 +31,7 @@ fn write_both(text: &[u8], work: &mut [u32], frames: &mut [u8], diags: &mut [u8]
 
 // Measures a text and lends just as much of the buffers.
 fn run(text: &[u8], work: &mut [u32], frames: &mut [u8], diags: &mut [u8]) {
-    match catalogue::measure(text, work) {
+    match catalogue::measure(text, work, Setting::Short) {
         Measured::Refused(_) => {}
         Measured::Needs(f, d, _) => {
             let f_needed = f as usize;

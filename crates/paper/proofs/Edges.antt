@@ -15,6 +15,7 @@ use Rattle.paper.specs.Frames.{Frame, full}
 use Rattle.paper.specs.Give.{Given}
 use Rattle.paper.specs.Records.{frame-stream, diag-stream}
 use Rattle.paper.specs.Answer.{crowded, frame-at, frames-in, streams, written, outcome}
+use Rattle.paper.specs.declared.Setting.{Setting}
 use Rattle.paper.specs.declared.Refusal.{Refusal}
 use Rattle.paper.specs.declared.Refusal.the-variants.{LongText, ShortWork, BadByte, ManyVariables, ShortFrames, ShortDiags}
 
@@ -35,33 +36,33 @@ unfolding reading
 number-3 t w o a b e = rw (a, b, e)
 
 -- each of 1 to 6 comes before 7, 8 and 9
-pub unread : (t : List ℕ) (w f d : ℕ) (r : Refusal) → reading t w ≡ refused r → outcome t w f d ≡ refused r
+pub unread : (c : Setting) (t : List ℕ) (w f d : ℕ) (r : Refusal) → reading t w ≡ refused r → outcome c t w f d ≡ refused r
 unfolding outcome
-unread t w f d r e = rw e
+unread c t w f d r e = rw e
 
 -- ---- 7, then 8, then 9, then 0, for whatever the statements give
-pub number-7 : (l : List Given) (f d : ℕ) (x : Frame)
-    → find crowded (frames-in l) ≡ some x → written l f d ≡ refused (ManyVariables (frame-at x))
+pub number-7 : (c : Setting) (l : List Given) (f d : ℕ) (x : Frame)
+    → find crowded (frames-in l) ≡ some x → written c l f d ≡ refused (ManyVariables (frame-at x))
 unfolding written
-number-7 l f d x e = rw e
+number-7 c l f d x e = rw e
 
-pub number-8 : (l : List Given) (f d : ℕ)
-    → find crowded (frames-in l) ≡ none → ltb f (length (frame-stream l)) ≡ true
-    → written l f d ≡ refused (ShortFrames (length (frame-stream l)))
+pub number-8 : (c : Setting) (l : List Given) (f d : ℕ)
+    → find crowded (frames-in l) ≡ none → ltb f (length (frame-stream c l)) ≡ true
+    → written c l f d ≡ refused (ShortFrames (length (frame-stream c l)))
 unfolding written
-number-8 l f d e a = rw (e, a)
+number-8 c l f d e a = rw (e, a)
 
-pub number-9 : (l : List Given) (f d : ℕ)
-    → find crowded (frames-in l) ≡ none → ltb f (length (frame-stream l)) ≡ false
-    → ltb d (length (diag-stream l)) ≡ true → written l f d ≡ refused (ShortDiags (length (diag-stream l)))
+pub number-9 : (c : Setting) (l : List Given) (f d : ℕ)
+    → find crowded (frames-in l) ≡ none → ltb f (length (frame-stream c l)) ≡ false
+    → ltb d (length (diag-stream l)) ≡ true → written c l f d ≡ refused (ShortDiags (length (diag-stream l)))
 unfolding written
-number-9 l f d e a b = rw (e, a, b)
+number-9 c l f d e a b = rw (e, a, b)
 
-pub number-0 : (l : List Given) (f d : ℕ)
-    → find crowded (frames-in l) ≡ none → ltb f (length (frame-stream l)) ≡ false
-    → ltb d (length (diag-stream l)) ≡ false → written l f d ≡ given (streams l)
+pub number-0 : (c : Setting) (l : List Given) (f d : ℕ)
+    → find crowded (frames-in l) ≡ none → ltb f (length (frame-stream c l)) ≡ false
+    → ltb d (length (diag-stream l)) ≡ false → written c l f d ≡ given (streams c l)
 unfolding written
-number-0 l f d e a b = rw (e, a, b)
+number-0 c l f d e a b = rw (e, a, b)
 
 -- ---- 4,095 variables are not too many, 4,096 are
 abbrev frame-with : ℕ → Frame

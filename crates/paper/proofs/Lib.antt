@@ -14,6 +14,7 @@ pub mod Readings
 pub mod Measures
 pub mod Proofs
 pub mod Marked
+pub mod Shorts
 pub mod Searches
 pub mod Sums
 pub mod Gather

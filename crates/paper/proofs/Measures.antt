@@ -10,6 +10,8 @@ use Rattle.paper.specs.Reader.{refused, reading}
 use Rattle.paper.specs.Frames.{Frame}
 use Rattle.paper.specs.Give.{Given}
 use Rattle.paper.specs.Answer.{crowded, frame-at, frames-in, measured-number, measured-place, frames-needed, diags-needed, measured-count, measured, measuring, measure, work-exit}
+use Rattle.paper.specs.declared.Setting.{Setting}
+use Rattle.paper.specs.declared.Setting.the-variants.{Short, Full}
 use Rattle.paper.specs.declared.Refusal.{Refusal}
 use Rattle.paper.specs.declared.Refusal.the-variants.{ManyVariables}
 use Rattle.paper.proofs.Table.{operation, old, zeros}
@@ -25,14 +27,14 @@ pub data Case : Type 0 where
 abbrev pub expected : Case → Sizes
 expected (measured-in t w x) = x
 
-unfoldable pub measurement : List ℕ → List ℕ → Sizes
+unfoldable pub measurement : Setting → List ℕ → List ℕ → Sizes
 unfolding operation measured measuring measure
-measurement t w =
-    let m = measure t (length w) in
+measurement c t w =
+    let m = measure c t (length w) in
     sizes (measured-number m) (measured-place m) (frames-needed m) (diags-needed m) (measured-count m) (work-exit w)
 
-abbrev pub computed : Case → Sizes
-computed (measured-in t w x) = measurement t w
+abbrev pub computed : Setting → Case → Sizes
+computed c (measured-in t w x) = measurement c t w
 
 abbrev pub cases : List Case
 cases =
@@ -55,16 +57,27 @@ cases =
     measured-in (codes "${") (old 32) (sizes 6 2 0 0 0 (zeros 32)) ∷
     []
 
-pub measures : map computed cases ≡ map expected cases
+pub measures : map (computed Full) cases ≡ map expected cases
 unfolding measurement
 measures = refl
 
+-- the measure takes the setting: an optional variable is a name and a row of the full frame
+abbrev pub short-cases : List Case
+short-cases =
+    measured-in (codes "$c c $. $v x y $. $d x y $. a $a c $.") (old 256) (sizes 0 0 48 0 1 (zeros 256)) ∷
+    measured-in (codes "$c ( ) wff $. $v x $. wx $f wff x $. ax $a wff ( x ) $.") (old 336) (sizes 0 0 116 0 2 (zeros 336)) ∷
+    []
+
+pub short-measures : map (computed Short) short-cases ≡ map expected short-cases
+unfolding measurement
+short-measures = refl
+
 -- ---- each of 1 to 6 comes before 7
-pub unread : (t : List ℕ) (w : ℕ) (r : Refusal) → reading t w ≡ refused r → measuring t w ≡ refused r
+pub unread : (c : Setting) (t : List ℕ) (w : ℕ) (r : Refusal) → reading t w ≡ refused r → measuring c t w ≡ refused r
 unfolding measuring
-unread t w r e = rw e
+unread c t w r e = rw e
 
 -- the first frame with over 4,095 variables
-pub number-7 : (l : List Given) (x : Frame) → find crowded (frames-in l) ≡ some x → measured l ≡ refused (ManyVariables (frame-at x))
+pub number-7 : (c : Setting) (l : List Given) (x : Frame) → find crowded (frames-in l) ≡ some x → measured c l ≡ refused (ManyVariables (frame-at x))
 unfolding measured
-number-7 l x e = rw e
+number-7 c l x e = rw e

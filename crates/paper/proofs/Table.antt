@@ -20,6 +20,8 @@ use Rattle.paper.specs.Reader.{allow, many, items, words, reading}
 use Rattle.paper.specs.Records.{le, u16, u32, string, framed, diag-record, fragment-bytes, expression-bytes, hypothesis-bytes, pair-bytes, octet, row-bytes, full-payload, frame-record, frame-records, diag-records, frame-stream, diag-stream}
 use Rattle.paper.specs.State.{view, nested-of, float-of, sense}
 use Rattle.paper.specs.Statements.{outermost, closers, ends}
+use Rattle.paper.specs.declared.Setting.{Setting}
+use Rattle.paper.specs.declared.Setting.the-variants.{Full}
 use Rattle.paper.specs.Tokens.{run, toks, tokens, label-token, math-token, key, bad-from}
 
 -- a text, and at entry the work area, the frame buffer and the diagnostics buffer
@@ -39,7 +41,7 @@ abbrev pub expected : Case → Result
 expected (l gives r) = r
 
 -- what the definitions say. Whoever unfolds this unfolds every definition on the way
-unfoldable pub operation : Lent → Result
+unfoldable pub operation : Setting → Lent → Result
 unfolding written outcome answer laid frames-exit diags-exit work-exit sameb all any keep find latest gather
     table white printable label-byte math-byte each check-label check-outer verdict records nested-records
     nested-diags check-float check-expression first-index check-disjoint after bracketed visible formula sights
@@ -49,12 +51,16 @@ unfolding written outcome answer laid frames-exit diags-exit work-exit sameb all
     expression-bytes hypothesis-bytes pair-bytes octet row-bytes full-payload frame-record frame-records
     diag-records frame-stream diag-stream view nested-of float-of sense outermost closers ends run toks tokens
     label-token math-token key bad-from
-operation (lent t w f d) =
-    let a = answer t (length w) (length f) (length d) in
-    result (number a) (place a) (frames-used a) (diags-used a) (frames-exit t w f d) (diags-exit t w f d) (work-exit w)
+operation c (lent t w f d) =
+    let a = answer c t (length w) (length f) (length d) in
+    result (number a) (place a) (frames-used a) (diags-used a) (frames-exit c t w f d) (diags-exit c t w f d) (work-exit w)
+
+-- under a setting; document 01's own frames are the full ones
+abbrev pub computed-as : Setting → Case → Result
+computed-as c (l gives r) = operation c l
 
 abbrev pub computed : Case → Result
-computed (l gives r) = operation l
+computed x = computed-as Full x
 
 -- a buffer at entry: n bytes or words that are no zeros
 abbrev pub old : ℕ → List ℕ

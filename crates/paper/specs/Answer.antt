@@ -15,6 +15,7 @@ use Rattle.paper.specs.Verdicts.{ProofEnd, all-verdicts, exceeding}
 use Rattle.paper.specs.Records.{frame-stream, diag-stream, verdict-stream}
 use Rattle.paper.specs.declared.Refusal.{Refusal}
 use Rattle.paper.specs.declared.Refusal.the-variants.{LongText, ShortWork, BadByte, OpenComment, BadToken, OpenText, ManyVariables, ShortFrames, ShortDiags}
+use Rattle.paper.specs.declared.Setting.{Setting}
 use Rattle.paper.specs.declared.Measured.{Measured}
 use Rattle.paper.specs.declared.Measured.the-variants as lengths
 use Rattle.paper.specs.declared.Answer.{Answer}
@@ -103,32 +104,33 @@ pub record Streams : Type 0 where
   pub diags : List ℕ
   pub count : ℕ
 
-abbrev pub streams : List Given → Streams
-streams l = record { frames = frame-stream l; diags = diag-stream l; count = length (frames-in l) }
+-- `c` is the setting of the frames
+abbrev pub streams : Setting → List Given → Streams
+streams c l = record { frames = frame-stream c l; diags = diag-stream l; count = length (frames-in l) }
 
 -- ---- what the measure answers
-abbrev pub unless-crowded : Option Frame → List Given → Outcome Streams
-unless-crowded (some x) l = refused (ManyVariables (frame-at x))
-unless-crowded none l = given (streams l)
+abbrev pub unless-crowded : Setting → Option Frame → List Given → Outcome Streams
+unless-crowded c (some x) l = refused (ManyVariables (frame-at x))
+unless-crowded c none l = given (streams c l)
 
 -- number 7, for what the statements give
-unfoldable pub measured : List Given → Outcome Streams
-measured l = unless-crowded (find crowded (frames-in l)) l
+unfoldable pub measured : Setting → List Given → Outcome Streams
+measured c l = unless-crowded c (find crowded (frames-in l)) l
 
-abbrev pub measured-of : Outcome (List Statement) → Outcome Streams
-measured-of (refused r) = refused r
-measured-of (given l) = measured (all-given l)
+abbrev pub measured-of : Setting → Outcome (List Statement) → Outcome Streams
+measured-of c (refused r) = refused r
+measured-of c (given l) = measured c (all-given l)
 
 -- the streams of a text, given so many words of work area; or one of numbers 1 to 7
-unfoldable pub measuring : List ℕ → ℕ → Outcome Streams
-measuring t w = measured-of (reading t w)
+unfoldable pub measuring : Setting → List ℕ → ℕ → Outcome Streams
+measuring c t w = measured-of c (reading t w)
 
 abbrev pub needs-of : Outcome Streams → Measured
 needs-of (refused r) = lengths.Refused r
 needs-of (given s) = lengths.Needs (length (s .frames)) (length (s .diags)) (s .count)
 
-unfoldable pub measure : List ℕ → ℕ → Measured
-measure t w = needs-of (measuring t w)
+unfoldable pub measure : Setting → List ℕ → ℕ → Measured
+measure c t w = needs-of (measuring c t w)
 
 -- ---- what the writer answers
 -- numbers 8 and 9, for buffers of f and d bytes
@@ -137,28 +139,28 @@ fitting s f d =
     choose (ltb f (length (s .frames))) (refused (ShortFrames (length (s .frames))))
     (choose (ltb d (length (s .diags))) (refused (ShortDiags (length (s .diags)))) (given s))
 
-abbrev pub numbered : Option Frame → List Given → ℕ → ℕ → Outcome Streams
-numbered (some x) l f d = refused (ManyVariables (frame-at x))
-numbered none l f d = fitting (streams l) f d
+abbrev pub numbered : Setting → Option Frame → List Given → ℕ → ℕ → Outcome Streams
+numbered c (some x) l f d = refused (ManyVariables (frame-at x))
+numbered c none l f d = fitting (streams c l) f d
 
 -- numbers 7, 8 and 9, for what the statements give
-unfoldable pub written : List Given → ℕ → ℕ → Outcome Streams
-written l f d = numbered (find crowded (frames-in l)) l f d
+unfoldable pub written : Setting → List Given → ℕ → ℕ → Outcome Streams
+written c l f d = numbered c (find crowded (frames-in l)) l f d
 
-abbrev pub written-of : Outcome (List Statement) → ℕ → ℕ → Outcome Streams
-written-of (refused r) f d = refused r
-written-of (given l) f d = written (all-given l) f d
+abbrev pub written-of : Setting → Outcome (List Statement) → ℕ → ℕ → Outcome Streams
+written-of c (refused r) f d = refused r
+written-of c (given l) f d = written c (all-given l) f d
 
 -- the streams of a text, given so many words of work area and bytes of output buffers; or one of numbers 1 to 9
-unfoldable pub outcome : List ℕ → ℕ → ℕ → ℕ → Outcome Streams
-outcome t w f d = written-of (reading t w) f d
+unfoldable pub outcome : Setting → List ℕ → ℕ → ℕ → ℕ → Outcome Streams
+outcome c t w f d = written-of c (reading t w) f d
 
 abbrev pub answer-of : Outcome Streams → Answer
 answer-of (refused r) = Refused r
 answer-of (given s) = Done (length (s .frames)) (length (s .diags)) (s .count)
 
-unfoldable pub answer : List ℕ → ℕ → ℕ → ℕ → Answer
-answer t w f d = answer-of (outcome t w f d)
+unfoldable pub answer : Setting → List ℕ → ℕ → ℕ → ℕ → Answer
+answer c t w f d = answer-of (outcome c t w f d)
 
 -- ---- the proofs (document 02, A1): number 12 at the first `$p` that exceeds the stack; then 17 with the bytes needed, for a
 -- verdict buffer that is too short; else the verdict stream. Both come after 9
@@ -213,11 +215,11 @@ diags-of (refused r) l = l
 diags-of (given s) l = laid l 0 (s .diags)
 
 -- the frame buffer f, the diagnostics buffer d and the work area w at entry
-unfoldable pub frames-exit : List ℕ → List ℕ → List ℕ → List ℕ → List ℕ
-frames-exit t w f d = frames-of (outcome t (length w) (length f) (length d)) f
+unfoldable pub frames-exit : Setting → List ℕ → List ℕ → List ℕ → List ℕ → List ℕ
+frames-exit c t w f d = frames-of (outcome c t (length w) (length f) (length d)) f
 
-unfoldable pub diags-exit : List ℕ → List ℕ → List ℕ → List ℕ → List ℕ
-diags-exit t w f d = diags-of (outcome t (length w) (length f) (length d)) d
+unfoldable pub diags-exit : Setting → List ℕ → List ℕ → List ℕ → List ℕ → List ℕ
+diags-exit c t w f d = diags-of (outcome c t (length w) (length f) (length d)) d
 
 -- The work area holds only zeros after every call.
 unfoldable pub work-exit : List ℕ → List ℕ

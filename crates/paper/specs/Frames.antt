@@ -1,15 +1,17 @@
 -- Scope rules: the frame of an assertion, and the stub frame of a `$f`.
--- Optional variables follow the mandatory ones, by first sight through active `$d`.
+-- Optional variables follow the mandatory ones, by first sight through active `$d`; a setting leaves them out.
 use mathlib.Core.Bool.{Bool}
-use mathlib.Core.List.{List, _++_}
+use mathlib.Core.List.{List, _++_, map}
 use Prim.Native.Nat.{ℕ}
-use lib.ListN.{length}
+use lib.ListN.{length, take}
 use Rattle.paper.specs.Base.{gather}
 use Rattle.paper.specs.Statements.{Statement}
 use Rattle.paper.specs.State.{Formula, State}
 use Rattle.paper.specs.Variables.{sights, mandatory}
 use Rattle.paper.specs.Expressions.{pool-of, Expression, expression, Hypothesis, pooled, hypotheses}
 use Rattle.paper.specs.Pairs.{in-order, Pair, pairs, rows}
+use Rattle.paper.specs.declared.Setting.{Setting}
+use Rattle.paper.specs.declared.Setting.the-variants as setting
 
 pub record Full : Type 0 where
   pub kind : ℕ
@@ -47,3 +49,26 @@ frame-of k s v f =
       pairs = pairs m d;
       rows = rows l d;
     })
+
+-- ---- A8 of document 02: frames with the M mandatory variables only, V equal to M and rows over those
+-- the first M of the variables, of the rows, and of each row
+abbrev pub restricted : Full → Full
+restricted f =
+    record {
+      kind = f .kind;
+      at = f .at;
+      label = f .label;
+      variables = take (f .mandatory) (f .variables);
+      mandatory = f .mandatory;
+      pool = f .pool;
+      hyps = f .hyps;
+      target = f .target;
+      pairs = f .pairs;
+      rows = map (take (f .mandatory)) (take (f .mandatory) (f .rows));
+    }
+
+-- a frame as the setting has it; that of a `$f` has no optional variables
+abbrev pub frame-as : Setting → Frame → Frame
+frame-as setting.Full x = x
+frame-as setting.Short (stub o e n c v) = stub o e n c v
+frame-as setting.Short (full f) = full (restricted f)

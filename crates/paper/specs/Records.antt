@@ -8,10 +8,11 @@ use Rattle.paper.specs.Base.{choose, gather, table}
 use Rattle.paper.specs.Checks.{Diag}
 use Rattle.paper.specs.Expressions.{raised, Fragment, Expression, Hypothesis, of-float, of-essential}
 use Rattle.paper.specs.Pairs.{Pair}
-use Rattle.paper.specs.Frames.{Full, Frame, stub, full}
+use Rattle.paper.specs.Frames.{Full, Frame, stub, full, frame-as}
 use Rattle.paper.specs.Give.{Given}
 use Rattle.paper.specs.Steps.{Ending, right, wrong, incomplete, exceeds}
 use Rattle.paper.specs.Verdicts.{ProofEnd}
+use Rattle.paper.specs.declared.Setting.{Setting}
 
 -- the k lowest bytes of n
 unfoldable pub le : ℕ → ℕ → List ℕ
@@ -82,14 +83,15 @@ frame-record (stub o e n c v) = framed 1 (u32 o ++ (u32 e ++ (string n ++ (strin
 frame-record (full f) = framed (f .kind) (full-payload f)
 
 -- ---- Both streams go in text order, diagnostics of one statement in order of discovery
-unfoldable pub frame-records : Given → List ℕ
-frame-records g = gather frame-record (g .frame)
+-- with the frames as the setting c has them
+unfoldable pub frame-records : Setting → Given → List ℕ
+frame-records c g = gather (λ x. frame-record (frame-as c x)) (g .frame)
 
 unfoldable pub diag-records : Given → List ℕ
 diag-records g = gather diag-record (g .diags)
 
-unfoldable pub frame-stream : List Given → List ℕ
-frame-stream l = gather frame-records l
+unfoldable pub frame-stream : Setting → List Given → List ℕ
+frame-stream c l = gather (frame-records c) l
 
 unfoldable pub diag-stream : List Given → List ℕ
 diag-stream l = gather diag-records l

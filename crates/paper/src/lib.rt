@@ -41,6 +41,12 @@ pub enum Reading {
     Unread(Refusal),
 }
 
+/// Which frames of assertions are written: with the mandatory variables only, or full.
+pub enum Setting {
+    Short,
+    Full,
+}
+
 /// What the measure answers: the bytes of frames and of diagnostics and the number of frames, or a refusal.
 pub enum Measured {
     Needs(u64, u64, u64),

@@ -12,9 +12,11 @@ use Rattle.paper.specs.Tokens.{bad-from}
 use Rattle.paper.specs.Statements.{Statement, none-end, Item, ends}
 use Rattle.paper.specs.Reader.{given, words, reading}
 use Rattle.paper.specs.State.{nothing}
+use Rattle.paper.specs.Frames.{frame-as}
 use Rattle.paper.specs.Give.{Given, gives, all-given}
 use Rattle.paper.specs.Records.{frame-record, diag-record, frame-records, diag-records, frame-stream, diag-stream}
 use Rattle.paper.specs.Answer.{crowded, frame-at, frames-in, Streams, streams, outcome, answer, frames-exit, diags-exit}
+use Rattle.paper.specs.declared.Setting.{Setting}
 use Rattle.paper.proofs.Lists.{gather-append, keep-append}
 use Rattle.paper.proofs.Alls.{All, all-append, all-left, all-right, all-map, keep-all, keep-none}
 use Rattle.paper.proofs.Searches.{all-gather, find-none, none-find}
@@ -115,7 +117,7 @@ module _ {A B : Type 0} (f : A → List B) (a b c : List A) where
       )
       (sym (gather-append f a c))
 
-module _ {w x : List Statement} {p q : ℕ} (h : Three w x p q) (k : Parted w x (h .before) (h .within-it) (h .behind)) where
+module _ (c : Setting) {w x : List Statement} {p q : ℕ} (h : Three w x p q) (k : Parted w x (h .before) (h .within-it) (h .behind)) where
   frames-kept : keep (frame-outside p q) (frames-in (all-given w)) ≡ frames-in (all-given x)
   frames-kept =
       rw (k .whole, k .without)
@@ -133,36 +135,36 @@ module _ {w x : List Statement} {p q : ℕ} (h : Three w x p q) (k : Parted w x 
       (diags-at (λ n. q < n) w (h .behind-at) (k .third)))
 
   -- numbers 7 to 9
-  blanked-fits : {f d : ℕ} → Fits (all-given w) f d → Fits (all-given x) f d
+  blanked-fits : {f d : ℕ} → Fits c (all-given w) f d → Fits c (all-given x) f d
   unfolding frame-stream diag-stream
   blanked-fits {f} {d} y =
       let a = gives w (h .before) nothing in
       let b = gives w (h .within-it) (k .first) in
-      let c = gives w (h .behind) (k .third) in
+      let e = gives w (h .behind) (k .third) in
       let n = subst (λ (l : List Given). All (λ z. crowded z ≡ false) (frames-in l)) (k .whole) (find-none crowded (frames-in (all-given w)) (y .uncrowded)) in
       record {
-        uncrowded = rw (k .without) (none-find crowded (gather-all (λ g. g .frame) a b c n));
-        frames-fit = rw (k .without) (omega (arith, gather-less frame-records a b c, rw (k .whole) at (y .frames-fit)));
-        diags-fit = rw (k .without) (omega (arith, gather-less diag-records a b c, rw (k .whole) at (y .diags-fit)));
+        uncrowded = rw (k .without) (none-find crowded (gather-all (λ g. g .frame) a b e n));
+        frames-fit = rw (k .without) (omega (arith, gather-less (frame-records c) a b e, rw (k .whole) at (y .frames-fit)));
+        diags-fit = rw (k .without) (omega (arith, gather-less diag-records a b e, rw (k .whole) at (y .diags-fit)));
       }
 
-  streams-are : Exact w (streams (all-given w)) p q
-      → streams (all-given x) ≡ streams-without p q (streams (all-given w))
+  streams-are : Exact c w (streams c (all-given w)) p q
+      → streams c (all-given x) ≡ streams-without p q (streams c (all-given w))
   streams-are e =
-      let a : taken-out p q (frame-stream (all-given w)) ≡ frame-stream (all-given x) =
-      e .frames-stay ∙ (ap (gather frame-record) frames-kept ∙ sym (frame-stream-is (all-given x))) in
+      let a : taken-out p q (frame-stream c (all-given w)) ≡ frame-stream c (all-given x) =
+      e .frames-stay ∙ (ap (gather (λ y. frame-record (frame-as c y))) frames-kept ∙ sym (frame-stream-is c (all-given x))) in
       let b : taken-out p q (diag-stream (all-given w)) ≡ diag-stream (all-given x) =
       e .diags-stay ∙ (ap (gather diag-record) diags-kept ∙ sym (diag-stream-is (all-given x))) in
-      let c : records-in (frame-stream (all-given x)) ≡ length (frames-in (all-given x)) =
+      let z : records-in (frame-stream c (all-given x)) ≡ length (frames-in (all-given x)) =
       ap records-in (sym a) ∙ (e .count-stays ∙ ap length frames-kept) in
-      rw (a, b, c)
+      rw (a, b, z)
 
 -- ---- the theorem
 -- by the outcome of the blanked text
-pub blanked-gives : (t w f d : List ℕ) (p q : ℕ) (s : Streams) → outcome t (length w) (length f) (length d) ≡ given s
-    → outcome (blanked t p q) (length w) (length f) (length d) ≡ given (streams-without p q s) → Blanked t w f d p q
+pub blanked-gives : (c : Setting) (t w f d : List ℕ) (p q : ℕ) (s : Streams) → outcome c t (length w) (length f) (length d) ≡ given s
+    → outcome c (blanked t p q) (length w) (length f) (length d) ≡ given (streams-without p q s) → Blanked c t w f d p q
 unfolding answer frames-exit diags-exit
-blanked-gives t w f d p q s a b =
+blanked-gives c t w f d p q s a b =
     record {
       streams = s;
       were = a;
@@ -172,18 +174,18 @@ blanked-gives t w f d p q s a b =
       diags-held = rw b;
     }
 
-without-it : (t : List ℕ) (w f d p q : ℕ) (s : Streams) (g : Group t p q) → reading t w ≡ given (statements g)
-    → Fits (all-given (statements g)) f d → streams (all-given (statements g)) ≡ s → Apart (statements g) p q
-    → outcome (blanked t p q) w f d ≡ given (streams-without p q s)
-without-it t w f d p q s g r y e a =
+without-it : (c : Setting) (t : List ℕ) (w f d p q : ℕ) (s : Streams) (g : Group t p q) → reading t w ≡ given (statements g)
+    → Fits c (all-given (statements g)) f d → streams c (all-given (statements g)) ≡ s → Apart (statements g) p q
+    → outcome c (blanked t p q) w f d ≡ given (streams-without p q s)
+without-it c t w f d p q s g r y e a =
     let l = statements g in
     let h = passed t w l r in
     let x = split-group t p q (g .read) (g .reads) (g .own) in
     let u = ends (x .front ++ x .back) [] in
     let low : q < none-end = omega (arith, text-length (x .parts), h .small) in
     let k = parted (three x) low a in
-    answering (blanked t p q) w f d u (passing (blanked t p q) w u (blanked-passes x h)) (blanked-fits (three x) k y)
-    ∙ (ap given (streams-are (three x) k (exact t w l h (y .uncrowded) p q))
+    answering c (blanked t p q) w f d u (passing (blanked t p q) w u (blanked-passes x h)) (blanked-fits c (three x) k y)
+    ∙ (ap given (streams-are c (three x) k (exact c t w l h (y .uncrowded) p q))
     ∙ ap (λ (z : Streams). given (streams-without p q z)) e)
 
 -- the statements of the answer are those of the group's text
@@ -195,13 +197,13 @@ same-statements h g =
     h .statements ∙ ap (λ (r : List Item). ends r []) e
 
 pub demand3 : Demand3
-demand3 t w f d p q n g a =
-    let s = number-zero t (length w) (length f) (length d) n in
-    let k = answered t (length w) (length f) (length d) (s .0) (s .1) in
+demand3 c t w f d p q n g a =
+    let s = number-zero c t (length w) (length f) (length d) n in
+    let k = answered c t (length w) (length f) (length d) (s .0) (s .1) in
     let e = same-statements (passed t (length w) (k .statements) (k .passes)) g in
-    blanked-gives t w f d p q (s .0) (s .1)
-    (without-it t (length w) (length f) (length d) p q (s .0) g
+    blanked-gives c t w f d p q (s .0) (s .1)
+    (without-it c t (length w) (length f) (length d) p q (s .0) g
     (subst (λ (l : List Statement). reading t (length w) ≡ given l) e (k .passes))
-    (subst (λ (l : List Statement). Fits (all-given l) (length f) (length d)) e (k .fit))
-    (subst (λ (l : List Statement). streams (all-given l) ≡ s .0) e (k .are))
+    (subst (λ (l : List Statement). Fits c (all-given l) (length f) (length d)) e (k .fit))
+    (subst (λ (l : List Statement). streams c (all-given l) ≡ s .0) e (k .are))
     a)

@@ -22,6 +22,7 @@ use Rattle.paper.specs.Give.{give-c, give-v, give-d, give-f, give-e, give-asser
 use Rattle.paper.specs.Records.{le, u16, u32, string, framed, diag-record, fragment-bytes, expression-bytes, hypothesis-bytes, pair-bytes, octet, row-bytes, full-payload, frame-record, frame-records, diag-records, frame-stream, diag-stream}
 use Rattle.paper.specs.Answer.{Streams, written, outcome, answer, laid}
 use Rattle.paper.specs.Lookup.{u16-at, u32-at}
+use Rattle.paper.specs.declared.Setting.the-variants.{Full}
 use Rattle.theorems.specs.Groups.{closer, blanked}
 use Rattle.theorems.specs.TakenOut.{walk, taken-out, records-from, records-in}
 use Rattle.theorems.specs.Demand3.{Blanked}
@@ -40,7 +41,7 @@ abbrev first-kind : Outcome Streams → ℕ
 first-kind (refused r) = 0
 first-kind (given s) = getD (s .diags) 4 0
 
-same-kind : {t : List ℕ} {p q : ℕ} → Blanked t buffer buffer buffer p q
+same-kind : {t : List ℕ} {p q : ℕ} → Blanked Full t buffer buffer buffer p q
     → first-kind (outcome-of (blanked t p q)) ≡ first-kind (without p q (outcome-of t))
 same-kind {p = p} {q = q} b = ap first-kind (b .are ∙ sym (ap (without p q) (b .were)))
 

@@ -216,7 +216,7 @@ unfolding table
 table-length f zero = refl
 table-length f (suc n) = omega (arith, length-append (table f n) (f n ∷ []), table-length f n)
 
-row-length : (r : List Bool) → length (row-bytes r) ≡ (length r + 7) / 8
+pub row-length : (r : List Bool) → length (row-bytes r) ≡ (length r + 7) / 8
 unfolding row-bytes
 row-length r = table-length _ ((length r + 7) / 8)
 

@@ -11,6 +11,7 @@ pub mod Weights
 pub mod Pairs
 pub mod Lengths
 pub mod Refusals
+pub mod Restricted
 pub mod Short
 pub mod Records
 pub mod Demand3

@@ -16,6 +16,7 @@ use Rattle.paper.specs.Reader.{Mode, start, named, math, proof, Step, go, stop,
 use Rattle.paper.specs.Frames.{Frame}
 use Rattle.paper.specs.Give.{Given, all-given}
 use Rattle.paper.specs.Answer.{refusal-number, measured-number, crowded, frames-in, Streams, streams, unless-crowded, measured, measured-of, measuring, needs-of, measure, fitting, written, outcome, answer-of, answer}
+use Rattle.paper.specs.declared.Setting.{Setting}
 use Rattle.paper.proofs.Tests.{split, by-option}
 use Rattle.theorems.specs.Measured.{written-as, AsMeasured, MeasuredFits, NeverShort}
 use Rattle.theorems.proofs.Refusals.{by-outcome}
@@ -27,23 +28,23 @@ by-buffers s f d =
     (λ a. rw a)
     (λ a. split (ltb d (length (s .diags))) (λ b. rw (a, b)) (λ b. rw (a, b)))
 
-by-given : (l : List Given) (f d : ℕ) → answer-of (written l f d) ≡ written-as (needs-of (measured l)) f d
+by-given : (c : Setting) (l : List Given) (f d : ℕ) → answer-of (written c l f d) ≡ written-as (needs-of (measured c l)) f d
 unfolding written measured
-by-given l f d =
-    by-option (find crowded (frames-in l)) (λ x e. rw e) (λ e. rw e (by-buffers (streams l) f d))
+by-given c l f d =
+    by-option (find crowded (frames-in l)) (λ x e. rw e) (λ e. rw e (by-buffers (streams c l) f d))
 
 pub as-measured : AsMeasured
 unfolding answer outcome measure measuring
-as-measured t w f d =
-    by-outcome (reading t w) (λ r e. rw e) (λ l e. rw e (by-given (all-given l) f d))
+as-measured c t w f d =
+    by-outcome (reading t w) (λ r e. rw e) (λ l e. rw e (by-given c (all-given l) f d))
 
 pub measured-fits : MeasuredFits
-measured-fits t w f d =
+measured-fits c t w f d =
     record {
-      done = λ {x} {y} e h k. as-measured t w f d ∙ rw (e, le-ltb f x h, le-ltb d y k);
-      short-frames = λ {x} e h. as-measured t w f d ∙ rw (e, lt-ltb f x h);
-      short-diags = λ {x} {y} e h k. as-measured t w f d ∙ rw (e, le-ltb f x h, lt-ltb d y k);
-      refused = λ e. as-measured t w f d ∙ rw e;
+      done = λ {x} {y} e h k. as-measured c t w f d ∙ rw (e, le-ltb f x h, le-ltb d y k);
+      short-frames = λ {x} e h. as-measured c t w f d ∙ rw (e, lt-ltb f x h);
+      short-diags = λ {x} {y} e h k. as-measured c t w f d ∙ rw (e, le-ltb f x h, lt-ltb d y k);
+      refused = λ e. as-measured c t w f d ∙ rw e;
     }
 
 -- ---- the measure's numbers
@@ -88,14 +89,14 @@ reading-told t w =
     (λ b. rw (a, b) (omega arith))
     (λ b. rw (a, b) (printed-told (bad-from t 0) _ (ends-told (items (tokens t) (length t)) (items-told t (length t))))))
 
-crowded-told : (o : Option Frame) (l : List Given) → told (unless-crowded o l) ≤ 7
-crowded-told (some x) l = omega arith
-crowded-told none l = omega arith
+crowded-told : (c : Setting) (o : Option Frame) (l : List Given) → told (unless-crowded c o l) ≤ 7
+crowded-told c (some x) l = omega arith
+crowded-told c none l = omega arith
 
-measured-told : (o : Outcome (List Statement)) → told o ≤ 7 → told (measured-of o) ≤ 7
+measured-told : (c : Setting) (o : Outcome (List Statement)) → told o ≤ 7 → told (measured-of c o) ≤ 7
 unfolding measured
-measured-told (refused r) h = h
-measured-told (given l) h = crowded-told (find crowded (frames-in (all-given l))) (all-given l)
+measured-told c (refused r) h = h
+measured-told c (given l) h = crowded-told c (find crowded (frames-in (all-given l))) (all-given l)
 
 number-told : (o : Outcome Streams) → told o ≤ 7 → measured-number (needs-of o) ≤ 7
 number-told (refused r) h = h
@@ -103,4 +104,4 @@ number-told (given s) h = h
 
 pub never-short : NeverShort
 unfolding measure measuring
-never-short t w = number-told (measured-of (reading t w)) (measured-told (reading t w) (reading-told t w))
+never-short c t w = number-told (measured-of c (reading t w)) (measured-told c (reading t w) (reading-told t w))

@@ -16,6 +16,7 @@ use Rattle.paper.specs.Statements.{Statement, Item, ends}
 use Rattle.paper.specs.Reader.{Outcome, refused, given, items, with-ends, words, reading}
 use Rattle.paper.specs.Give.{Given, all-given}
 use Rattle.paper.specs.Answer.{refusal-number, number, crowded, frame-at, frames-in, Streams, fitting, streams, written, outcome, answer}
+use Rattle.paper.specs.declared.Setting.{Setting}
 use Rattle.paper.specs.declared.Refusal.{Refusal}
 use Rattle.paper.specs.declared.Refusal.the-variants.{LongText, ShortWork, BadByte, OpenComment, BadToken, OpenText, ManyVariables, ShortFrames, ShortDiags}
 use Rattle.paper.proofs.Tests.{split, by-option, clash}
@@ -92,56 +93,56 @@ passing t w l h =
     rw (le-ltb 16777216 (length t) (h .small), le-ltb w (words t) (h .room), h .clean, h .reads, ← (h .statements))
 
 -- ---- numbers 7 to 9
-pub record Fits (l : List Given) (f d : ℕ) : Type 0 where
+pub record Fits (c : Setting) (l : List Given) (f d : ℕ) : Type 0 where
   pub uncrowded : find crowded (frames-in l) ≡ none
-  pub frames-fit : length (streams l .frames) ≤ f
-  pub diags-fit : length (streams l .diags) ≤ d
+  pub frames-fit : length (streams c l .frames) ≤ f
+  pub diags-fit : length (streams c l .diags) ≤ d
 
-fitted : (l : List Given) (f d : ℕ) (s : Streams) → fitting (streams l) f d ≡ given s
-    → (length (streams l .frames) ≤ f) × (length (streams l .diags) ≤ d) × (streams l ≡ s)
-fitted l f d s e =
-    split (ltb f (length (streams l .frames)))
-    (λ a. not-given {A = Streams} {r = ShortFrames (length (streams l .frames))} {a = s} (rw a at e))
-    (λ a. split (ltb d (length (streams l .diags)))
-    (λ b. not-given {A = Streams} {r = ShortDiags (length (streams l .diags))} {a = s} (rw (a, b) at e))
+fitted : (c : Setting) (l : List Given) (f d : ℕ) (s : Streams) → fitting (streams c l) f d ≡ given s
+    → (length (streams c l .frames) ≤ f) × (length (streams c l .diags) ≤ d) × (streams c l ≡ s)
+fitted c l f d s e =
+    split (ltb f (length (streams c l .frames)))
+    (λ a. not-given {A = Streams} {r = ShortFrames (length (streams c l .frames))} {a = s} (rw a at e))
+    (λ a. split (ltb d (length (streams c l .diags)))
+    (λ b. not-given {A = Streams} {r = ShortDiags (length (streams c l .diags))} {a = s} (rw (a, b) at e))
     (λ b.
-    let g : given (streams l) ≡ given s = rw (a, b) at e in
-    (ltb-false f (length (streams l .frames)) a, ltb-false d (length (streams l .diags)) b, cc)))
+    let g : given (streams c l) ≡ given s = rw (a, b) at e in
+    (ltb-false f (length (streams c l .frames)) a, ltb-false d (length (streams c l .diags)) b, cc)))
 
-pub fits : (l : List Given) (f d : ℕ) (s : Streams) → written l f d ≡ given s → Fits l f d × (streams l ≡ s)
+pub fits : (c : Setting) (l : List Given) (f d : ℕ) (s : Streams) → written c l f d ≡ given s → Fits c l f d × (streams c l ≡ s)
 unfolding written
-fits l f d s e =
+fits c l f d s e =
     by-option (find crowded (frames-in l))
     (λ x a. not-given {A = Streams} {r = ManyVariables (frame-at x)} {a = s} (rw a at e))
     (λ a.
-    let k = fitted l f d s (rw a at e) in
+    let k = fitted c l f d s (rw a at e) in
     (record { uncrowded = a; frames-fit = k .0; diags-fit = k .1 }, k .2))
 
-pub fitting-fits : (l : List Given) (f d : ℕ) → Fits l f d → written l f d ≡ given (streams l)
+pub fitting-fits : (c : Setting) (l : List Given) (f d : ℕ) → Fits c l f d → written c l f d ≡ given (streams c l)
 unfolding written
-fitting-fits l f d h =
-    rw (h .uncrowded, le-ltb f (length (streams l .frames)) (h .frames-fit), le-ltb d (length (streams l .diags)) (h .diags-fit))
+fitting-fits c l f d h =
+    rw (h .uncrowded, le-ltb f (length (streams c l .frames)) (h .frames-fit), le-ltb d (length (streams c l .diags)) (h .diags-fit))
 
 -- ---- the whole
-pub record Answered (t : List ℕ) (w f d : ℕ) (s : Streams) : Type 0 where
+pub record Answered (c : Setting) (t : List ℕ) (w f d : ℕ) (s : Streams) : Type 0 where
   pub statements : List Statement
   pub passes : reading t w ≡ given statements
-  pub fit : Fits (all-given statements) f d
-  pub are : streams (all-given statements) ≡ s
+  pub fit : Fits c (all-given statements) f d
+  pub are : streams c (all-given statements) ≡ s
 
-pub answered : (t : List ℕ) (w f d : ℕ) (s : Streams) → outcome t w f d ≡ given s → Answered t w f d s
+pub answered : (c : Setting) (t : List ℕ) (w f d : ℕ) (s : Streams) → outcome c t w f d ≡ given s → Answered c t w f d s
 unfolding outcome
-answered t w f d s e =
+answered c t w f d s e =
     by-outcome (reading t w)
     (λ r a. not-given {A = Streams} {r = r} {a = s} (rw a at e))
     (λ l a.
-    let k = fits (all-given l) f d s (rw a at e) in
+    let k = fits c (all-given l) f d s (rw a at e) in
     record { statements = l; passes = a; fit = k .0; are = k .1 })
 
-pub answering : (t : List ℕ) (w f d : ℕ) (l : List Statement) → reading t w ≡ given l → Fits (all-given l) f d
-    → outcome t w f d ≡ given (streams (all-given l))
+pub answering : (c : Setting) (t : List ℕ) (w f d : ℕ) (l : List Statement) → reading t w ≡ given l → Fits c (all-given l) f d
+    → outcome c t w f d ≡ given (streams c (all-given l))
 unfolding outcome
-answering t w f d l e h = rw e (fitting-fits (all-given l) f d h)
+answering c t w f d l e h = rw e (fitting-fits c (all-given l) f d h)
 
 no-zero : (r : Refusal) → refusal-number r ≡ 0 → ⊥
 no-zero LongText e = omega arith
@@ -155,9 +156,9 @@ no-zero (ShortFrames p) e = omega arith
 no-zero (ShortDiags p) e = omega arith
 
 -- number 0 is a text with streams
-pub number-zero : (t : List ℕ) (w f d : ℕ) → number (answer t w f d) ≡ 0 → (s : Streams) × (outcome t w f d ≡ given s)
+pub number-zero : (c : Setting) (t : List ℕ) (w f d : ℕ) → number (answer c t w f d) ≡ 0 → (s : Streams) × (outcome c t w f d ≡ given s)
 unfolding answer
-number-zero t w f d e =
-    by-outcome (outcome t w f d)
+number-zero c t w f d e =
+    by-outcome (outcome c t w f d)
     (λ r a. absurd (no-zero r (rw a at e)))
     (λ s a. (s, a))

@@ -2,9 +2,9 @@
 -- Where no frame has over 4,095 variables.
 use mathlib.Core.Path.{_≡_, refl}
 use mathlib.Core.Bool.{false}
-use mathlib.Core.List.{List, [], _∷_}
+use mathlib.Core.List.{List, [], _∷_, _++_}
 use mathlib.Core.Option.{none}
-use Prim.Native.Nat.{ℕ, _+_, _≤_}
+use Prim.Native.Nat.{ℕ, _+_, _<_, _≤_}
 use native.Mathlib.Omega.{arith}
 use lib.ListN.{length, length-append}
 use Rattle.paper.specs.Base.{find, gather}
@@ -13,17 +13,20 @@ use Rattle.paper.specs.Reader.{given, reading}
 use Rattle.paper.specs.State.{State, nothing, view, plus}
 use Rattle.paper.specs.Checks.{Diag, token, check-label, check-float, check-expression, check-disjoint}
 use Rattle.paper.specs.Variables.{formula}
-use Rattle.paper.specs.Frames.{Frame}
+use Rattle.paper.specs.Frames.{Frame, stub, full, restricted, frame-as}
 use Rattle.paper.specs.Give.{Given, accept, unless, give-c, give-v, give-d, give-f, give-e, give-assertion, give-by, give, gives, all-given}
-use Rattle.paper.specs.Records.{framed, frame-record, frame-records}
-use Rattle.paper.specs.Answer.{crowded}
+use Rattle.paper.specs.Records.{u32, framed, frame-record, frame-records}
+use Rattle.paper.specs.Answer.{crowded, frame-at}
+use Rattle.paper.specs.declared.Setting.{Setting}
+use Rattle.paper.specs.declared.Setting.the-variants as setting
 use Rattle.paper.proofs.Tests.{split}
 use Rattle.paper.proofs.Sums.{total}
 use Rattle.paper.proofs.Alls.{All, all-none, all-more, all-map, all-both, all-first}
 use Rattle.paper.proofs.Searches.{find-none}
 use Rattle.theorems.proofs.Reader.{statement-weight}
 use Rattle.theorems.proofs.Weights.{statements-weight, text-weight, state-weight, view-weight, plus-weight, formula-light, two-light, light}
-use Rattle.theorems.proofs.Lengths.{u16-length, u32-length, frame-framed, Short, stub-short, full-short}
+use Rattle.theorems.proofs.Lengths.{u16-length, u32-length, kind-of, rest-of, frame-framed, Short, stub-short, full-short}
+use Rattle.theorems.proofs.Restricted.{restricted-length}
 use Rattle.theorems.proofs.Refusals.{passed}
 
 -- ---- each frame
@@ -73,7 +76,7 @@ gives-short w (s ∷ l) x h =
     (gives-short w l (plus x r) (omega (arith, plus-weight x r, light w v s)))
 
 -- ---- a statement has at most one
-data One : List Frame → Type 0 where
+pub data One : List Frame → Type 0 where
   no-frame : One []
   one-frame : {x : Frame} → One (x ∷ [])
 
@@ -85,7 +88,7 @@ unless-one : (d : List Diag) (g : Given) → One (g .frame) → One (unless d g 
 unless-one [] g a = a
 unless-one (x ∷ d) g a = no-frame
 
-one-by : (k : Kind) (w : List Statement) (v : State) (s : Statement) → One (give-by k w v s .frame)
+pub one-by : (k : Kind) (w : List Statement) (v : State) (s : Statement) → One (give-by k w v s .frame)
 unfolding give-c give-v give-d give-f give-e give-assertion
 one-by $c w v s = split (outermost s) (λ e. rw e no-frame) (λ e. rw e no-frame)
 one-by $v w v s = split (outermost s) (λ e. rw e no-frame) (λ e. rw e no-frame)
@@ -101,25 +104,36 @@ gives-one w [] x = all-none
 gives-one w (s ∷ l) x =
     all-more (one-by (s .kind) w (view x (s .at)) s) (gives-one w l (plus x (give w (view x (s .at)) s .records)))
 
--- ---- its record
-record-length : (x : Frame) → Short x → length (frame-record x) ≤ 4294967300
+-- ---- its record, whole or restricted
+framed-length : (k : ℕ) (o : ℕ) (r : List ℕ) → 6 + length r < 4294967296 → length (framed k (u32 o ++ r)) ≤ 4294967300
 unfolding framed
-record-length x h =
-    rw (frame-framed x)
-    (simp (length-append, u16-length, u32-length) (omega (arith, h)))
+framed-length k o r h = simp (length-append, u16-length, u32-length) (omega (arith, h))
 
-records-length : {f : List Frame} → One f → All Fit f → find crowded f ≡ none → length (gather frame-record f) ≤ 4294967300
+record-length : (c : Setting) (x : Frame) → Short x → length (frame-record (frame-as c x)) ≤ 4294967300
+record-length setting.Full x h = rw (frame-framed x) (framed-length (kind-of x) (frame-at x) (rest-of x) h)
+record-length setting.Short (stub o e n c v) h =
+    rw (frame-framed (stub o e n c v)) (framed-length 1 o (rest-of (stub o e n c v)) h)
+record-length setting.Short (full f) h =
+    rw (frame-framed (full (restricted f)))
+    (framed-length (f .kind) (f .at) (rest-of (full (restricted f))) (omega (arith, h, restricted-length f)))
+
+records-length : (c : Setting) {f : List Frame} → One f → All Fit f → find crowded f ≡ none
+    → length (gather (λ x. frame-record (frame-as c x)) f) ≤ 4294967300
 unfolding gather
-records-length no-frame h e = omega arith
-records-length (one-frame {x = x}) h e =
-    omega (arith, record-length x (all-first h (all-first (find-none crowded (x ∷ []) e))), length-append (frame-record x) [])
+records-length c no-frame h e = omega arith
+records-length c (one-frame {x = x}) h e =
+    omega (
+      arith,
+      record-length c x (all-first h (all-first (find-none crowded (x ∷ []) e))),
+      length-append (frame-record (frame-as c x)) [],
+    )
 
-abbrev pub Brief : Given → Type 0
-Brief g = find crowded (g .frame) ≡ none → length (frame-records g) ≤ 4294967300
+abbrev pub Brief : Setting → Given → Type 0
+Brief c g = find crowded (g .frame) ≡ none → length (frame-records c g) ≤ 4294967300
 
-pub records-short : (t : List ℕ) (w : ℕ) (l : List Statement) → reading t w ≡ given l → All Brief (all-given l)
+pub records-short : (c : Setting) (t : List ℕ) (w : ℕ) (l : List Statement) → reading t w ≡ given l → All (Brief c) (all-given l)
 unfolding all-given frame-records total
-records-short t w l e =
+records-short c t w l e =
     let h = passed t w l e in
     let b : statements-weight l ≤ 16777217 = rw (h .statements) (omega (arith, text-weight t (h .read) (h .reads), h .small)) in
-    all-map (λ g p. records-length (p .0) (p .1)) (all-both (gives-one l l nothing) (gives-short l l nothing (omega arith)))
+    all-map (λ g p. records-length c (p .0) (p .1)) (all-both (gives-one l l nothing) (gives-short l l nothing (omega arith)))

@@ -4,7 +4,7 @@ use mathlib.Core.Path.{sym, _∙_}
 use Rattle.theorems.specs.Unique.{UniqueMeasure, Unique, UniqueLook}
 
 pub unique-measure : UniqueMeasure
-unique-measure t w r s a b =
+unique-measure c t w r s a b =
     λ i.
     record {
       measured = (a .measures ∙ sym (b .measures)) i;
@@ -12,7 +12,7 @@ unique-measure t w r s a b =
     }
 
 pub unique : Unique
-unique t w f d r s a b =
+unique c t w f d r s a b =
     λ i.
     record {
       answer = (a .answers ∙ sym (b .answers)) i;

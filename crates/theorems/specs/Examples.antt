@@ -1,5 +1,5 @@
 -- Demand 3 at work on closed texts: where its conclusion fails without one half of its premise, and where it holds.
--- The work area and both buffers are 1,024 long.
+-- The work area and both buffers are 1,024 long; frames are full.
 use mathlib.Core.Path.{_≡_}
 use mathlib.Core.List.{List}
 use Prim.Native.Nat.{ℕ}
@@ -8,6 +8,7 @@ use Rattle.paper.specs.Base.{codes}
 use Rattle.paper.specs.Statements.{Statement}
 use Rattle.paper.specs.Reader.{Outcome, refused, given}
 use Rattle.paper.specs.Answer.{Streams, number, outcome, answer}
+use Rattle.paper.specs.declared.Setting.the-variants.{Full}
 use Rattle.paper.specs.declared.Answer.{Answer}
 use Rattle.paper.specs.declared.Answer.the-variants.{Done}
 use Rattle.theorems.specs.Groups.{Group, statements, blanked, LabelsApart, SymbolsApart}
@@ -18,17 +19,17 @@ abbrev pub buffer : List ℕ
 buffer = replicate 1024 0
 
 abbrev pub outcome-of : List ℕ → Outcome Streams
-outcome-of t = outcome t (length buffer) (length buffer) (length buffer)
+outcome-of t = outcome Full t (length buffer) (length buffer) (length buffer)
 
 abbrev pub answer-to : List ℕ → Answer
-answer-to t = answer t (length buffer) (length buffer) (length buffer)
+answer-to t = answer Full t (length buffer) (length buffer) (length buffer)
 
 -- ---- all of the theorem's premises but one half of the last hold, and its conclusion does not
 pub record Fails (Half : List Statement → ℕ → ℕ → Type 0) (t : List ℕ) (p q : ℕ) : Type 0 where
   pub done : number (answer-to t) ≡ 0
   pub group : Group t p q
   pub half : Half (statements group) p q
-  pub fails : Blanked t buffer buffer buffer p q → ⊥
+  pub fails : Blanked Full t buffer buffer buffer p q → ⊥
 
 abbrev pub label-text : List ℕ
 label-text = codes "${ a $e b $. $} a $e b $."

@@ -4,3 +4,4 @@ pub mod Demand3
 pub mod Examples
 pub mod Unique
 pub mod Measured
+pub mod Restricted

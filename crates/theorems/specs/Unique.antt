@@ -6,6 +6,7 @@ use Prim.Native.Nat.{ℕ}
 use lib.ListN.{length}
 use Rattle.paper.specs.Answer.{measure, answer, frames-exit, diags-exit, work-exit}
 use Rattle.paper.specs.Lookup.{look-up}
+use Rattle.paper.specs.declared.Setting.{Setting}
 use Rattle.paper.specs.declared.Measured.{Measured}
 use Rattle.paper.specs.declared.Answer.{Answer}
 use Rattle.paper.specs.declared.Found.{Found}
@@ -15,13 +16,13 @@ pub record Measurement : Type 0 where
   pub measured : Measured
   pub work : List ℕ
 
--- allowed for the text t with work area w at entry
-pub record AllowedMeasure (t w : List ℕ) (r : Measurement) : Type 0 where
-  pub measures : r .measured ≡ measure t (length w)
+-- allowed under the setting c for the text t with work area w at entry
+pub record AllowedMeasure (c : Setting) (t w : List ℕ) (r : Measurement) : Type 0 where
+  pub measures : r .measured ≡ measure c t (length w)
   pub work-holds : r .work ≡ work-exit w
 
 abbrev pub UniqueMeasure : Type 0
-UniqueMeasure = (t w : List ℕ) (r s : Measurement) → AllowedMeasure t w r → AllowedMeasure t w s → r ≡ s
+UniqueMeasure = (c : Setting) (t w : List ℕ) (r s : Measurement) → AllowedMeasure c t w r → AllowedMeasure c t w s → r ≡ s
 
 -- ---- the writer
 pub record Result : Type 0 where
@@ -30,15 +31,15 @@ pub record Result : Type 0 where
   pub diags : List ℕ
   pub work : List ℕ
 
--- allowed for the text t with work area w, frame buffer f and diagnostics buffer d at entry
-pub record Allowed (t w f d : List ℕ) (r : Result) : Type 0 where
-  pub answers : r .answer ≡ answer t (length w) (length f) (length d)
-  pub frames-hold : r .frames ≡ frames-exit t w f d
-  pub diags-hold : r .diags ≡ diags-exit t w f d
+-- allowed under the setting c for the text t with work area w, frame buffer f and diagnostics buffer d at entry
+pub record Allowed (c : Setting) (t w f d : List ℕ) (r : Result) : Type 0 where
+  pub answers : r .answer ≡ answer c t (length w) (length f) (length d)
+  pub frames-hold : r .frames ≡ frames-exit c t w f d
+  pub diags-hold : r .diags ≡ diags-exit c t w f d
   pub work-holds : r .work ≡ work-exit w
 
 abbrev pub Unique : Type 0
-Unique = (t w f d : List ℕ) (r s : Result) → Allowed t w f d r → Allowed t w f d s → r ≡ s
+Unique = (c : Setting) (t w f d : List ℕ) (r s : Result) → Allowed c t w f d r → Allowed c t w f d s → r ≡ s
 
 -- ---- look-up of the label n in the frame buffer f
 pub record LookedUp : Type 0 where

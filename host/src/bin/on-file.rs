@@ -1,8 +1,9 @@
 //! The operation on a file.
 //!
-//! `on-file TEXT FRAMES DIAGNOSTICS` writes both streams to files and prints number, place and used lengths.
-//! `on-file --time TEXT ROUNDS` prints, in ms of processor time, the writer's best over buffers that were touched before, its best over
-//! buffers that were not, the measure's best, and the best time that clearing the work area alone takes.
+//! `on-file [--short] TEXT FRAMES DIAGNOSTICS` writes both streams to files and prints number, place and used lengths; frames
+//! are full, or short ones.
+//! `on-file --time [--short] TEXT ROUNDS` prints, in ms of processor time, the writer's best over buffers that were touched before, its
+//! best over buffers that were not, the measure's best, and the best time that clearing the work area alone takes.
 
 #[path = "../../../bench/cpu.rs"]
 mod cpu;
@@ -24,8 +25,8 @@ fn fail(why: &str) -> ! {
     std::process::exit(1)
 }
 
-fn answer(text: &str, frames: &str, diags: &str) {
-    match streams(&read(text)) {
+fn answer(text: &str, frames: &str, diags: &str, full: bool) {
+    match streams(&read(text), full) {
         Ok(s) => {
             save(frames, &s.frames);
             save(diags, &s.diags);
@@ -42,17 +43,18 @@ fn milliseconds(run: impl FnOnce()) -> f64 {
 }
 
 /// The work area is asked for anew in each round, so that its pages are not there yet in the first call.
-fn time(path: &str, rounds: usize) {
+fn time(path: &str, rounds: &str, full: bool) {
+    let rounds = rounds.parse().unwrap_or_else(|_| fail("ROUNDS is a number"));
     let text = read(path);
     let words = words(&text);
-    let s = streams(&text).unwrap_or_else(|a| fail(&format!("{path}: number {} at {}", a.number, a.place)));
+    let s = streams(&text, full).unwrap_or_else(|a| fail(&format!("{path}: number {} at {}", a.number, a.place)));
     let (frames_length, diags_length) = (s.frames.len(), s.diags.len());
     let mut best = [f64::MAX; 4];
     for _ in 0..rounds {
         let (mut work, mut frames, mut diags) = (vec![0u32; words], vec![0u8; frames_length], vec![0u8; diags_length]);
-        let untouched = milliseconds(|| _ = black_box(write(&text, &mut work, &mut frames, &mut diags)));
-        let touched = milliseconds(|| _ = black_box(write(&text, &mut work, &mut frames, &mut diags)));
-        let measured = milliseconds(|| _ = black_box(measure(&text, &mut work)));
+        let untouched = milliseconds(|| _ = black_box(write(&text, &mut work, &mut frames, &mut diags, full)));
+        let touched = milliseconds(|| _ = black_box(write(&text, &mut work, &mut frames, &mut diags, full)));
+        let measured = milliseconds(|| _ = black_box(measure(&text, &mut work, full)));
         let clearing = milliseconds(|| black_box(&mut work).fill(0));
         if frames != s.frames || diags != s.diags {
             fail("two calls gave different streams");
@@ -71,8 +73,10 @@ fn main() {
     let args: Vec<String> = std::env::args().skip(1).collect();
     let args: Vec<&str> = args.iter().map(String::as_str).collect();
     match args[..] {
-        ["--time", text, rounds] => time(text, rounds.parse().unwrap_or_else(|_| fail("ROUNDS is a number"))),
-        [text, frames, diags] => answer(text, frames, diags),
-        _ => fail("on-file TEXT FRAMES DIAGNOSTICS | on-file --time TEXT ROUNDS"),
+        ["--time", "--short", text, rounds] => time(text, rounds, false),
+        ["--time", text, rounds] => time(text, rounds, true),
+        ["--short", text, frames, diags] => answer(text, frames, diags, false),
+        [text, frames, diags] => answer(text, frames, diags, true),
+        _ => fail("on-file [--short] TEXT FRAMES DIAGNOSTICS | on-file --time [--short] TEXT ROUNDS"),
     }
 }

@@ -118,22 +118,22 @@ fn work_area(text: &[u8], words: usize) -> Vec<u32> {
     vec![[0xDEAD_BEEF, 0, 1, u32::MAX][text.len() % 4]; words]
 }
 
-/// One measure over a work area that holds something: never 8 or 9, and the work area is zero afterwards.
+/// One measure of full frames over a work area that holds something: never 8 or 9, and the work area is zero afterwards.
 pub fn measured(name: &str, text: &[u8], words: usize) -> Answer {
     let mut work = work_area(text, words);
-    let answer = measure(text, &mut work);
+    let answer = measure(text, &mut work, true);
     assert_answer(name, &answer, 7);
     assert!(work.iter().all(|&w| w == 0), "{name}: work area after the measure");
     answer
 }
 
-/// One call over buffers that hold something. What must hold of every call is tested here: every byte past the used parts is as
+/// One call for full frames over buffers that hold something. What must hold of every call is tested here: every byte past the used parts is as
 /// before, the work area is zero, and the measure says what the writer does.
 pub fn run(name: &str, text: &[u8], words: usize, frames_length: usize, diags_length: usize) -> Run {
     let mut work = work_area(text, words);
     let mut frames = filled(frames_length);
     let mut diags = filled(diags_length);
-    let answer = write(text, &mut work, &mut frames, &mut diags);
+    let answer = write(text, &mut work, &mut frames, &mut diags, true);
     assert_answer(name, &answer, 9);
     assert_kept(&frames, answer.frames as usize, name, "frames");
     assert_kept(&diags, answer.diags as usize, name, "diagnostics");

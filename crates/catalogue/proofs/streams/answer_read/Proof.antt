@@ -19,8 +19,8 @@ sizes-requires c κs = some-whole (c .before .before .before .start .ensures) (c
 enum-known-s : tie.Need-enum-known-s
 enum-known-s c = search needs
 
-cast-t17 : tie.Need-cast-t17
-cast-t17 c = search needs
+cast-t18 : tie.Need-cast-t18
+cast-t18 c = search needs
 
 enum-known-f : tie.Need-enum-known-f
 enum-known-f c = search needs
@@ -65,7 +65,7 @@ answer-read-spec =
     start-requires
     sizes-requires
     enum-known-s
-    cast-t17
+    cast-t18
     enum-known-f
     same-length
     returns

@@ -17,8 +17,8 @@ sizes-requires c κs = some-whole (c .before .before .before .start .ensures) (c
 enum-known-s : tie.Need-enum-known-s
 enum-known-s c = search needs
 
-cast-t15 : tie.Need-cast-t15
-cast-t15 c = search needs
+cast-t16 : tie.Need-cast-t16
+cast-t16 c = search needs
 
 enum-known-f : tie.Need-enum-known-f
 enum-known-f c = search needs
@@ -42,7 +42,7 @@ measure-read-spec =
     start-requires
     sizes-requires
     enum-known-s
-    cast-t15
+    cast-t16
     enum-known-f
     same-length
     returns

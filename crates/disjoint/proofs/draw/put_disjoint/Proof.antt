@@ -1,6 +1,6 @@
 use mathlib.Core.Path.{refl}
 use native.Mathlib.Omega.{arith}
-use Rattle.disjoint.proofs.Written.{put-count, rows-size, lay, lay-place, puts-short, lay-can, puts-whole}
+use Rattle.disjoint.proofs.Written.{put-count, size-few, rows-size, lay, lay-place, puts-short, lay-can, puts-whole}
 use borrow.Author.Needs.{needs}
 use Rattle.disjoint.proofs.draw.put_disjoint.Statement.{statement}
 use Rattle.disjoint.proofs.draw.put_disjoint.Tie as tie
@@ -17,8 +17,8 @@ pair-count-requires c κs = put-count (c .before .before .before .pre)
 add-width : tie.Need-add-width
 add-width c = search needs
 
-mul-size : tie.Need-mul-size
-mul-size c = record { fits = omega (arith, rows-size (c .before .before .before .before .before .before .pre .few) refl) }
+mul-bytes : tie.Need-mul-bytes
+mul-bytes c = record { fits = omega (arith, rows-size (size-few (c .before .before .before .before .before .before .pre)) refl) }
 
 put-u32-requires : tie.Need-put-u32-requires
 put-u32-requires c κs = search needs
@@ -62,7 +62,7 @@ put-disjoint-spec =
     (tie.spec
     pair-count-requires
     add-width
-    mul-size
+    mul-bytes
     put-u32-requires
     mul-rows
     add-rows

@@ -11,16 +11,16 @@ use Rattle.fold.proofs.all.fold_statement.Reads as fold-statement-reads
 use Rattle.slots.proofs.cells.of_statement.Reads as of-statement-reads
 
 abbrev Inv-loop : tie.InvT-loop
-Inv-loop text work₀ n frames₀ diags₀ rows st₀ at₀ count₀ row₀ work frames diags st at count row = InvFold text work₀ work frames₀ frames diags₀ diags n rows st at count row
+Inv-loop text work₀ n frames₀ diags₀ rows setting st₀ at₀ count₀ row₀ work frames diags st at count row = InvFold setting text work₀ work frames₀ frames diags₀ diags n rows st at count row
 
 abbrev μ-loop : tie.MeasureT-loop
-μ-loop text work₀ n frames₀ diags₀ rows st₀ at₀ count₀ row₀ work frames diags st at count row = rows - row
+μ-loop text work₀ n frames₀ diags₀ rows setting st₀ at₀ count₀ row₀ work frames diags st at count row = rows - row
 
 loop-holds : tie.Need-loop-holds Inv-loop μ-loop
 loop-holds c = fold-start
 
-cast-t21 : tie.Need-cast-t21 Inv-loop μ-loop
-cast-t21 c = let b = c .before .before .before .before .before .before .before .before .before .pre .holds .checks in omega (arith, b .count, b .named .shape .few, b .room .small)
+cast-t22 : tie.Need-cast-t22 Inv-loop μ-loop
+cast-t22 c = let b = c .before .before .before .before .before .before .before .before .before .pre .holds .checks in omega (arith, b .count, b .named .shape .few, b .room .small)
 
 fold-statement-requires : tie.Need-fold-statement-requires Inv-loop μ-loop
 fold-statement-requires c κs = can-step (omega arith) (c .before .before .before .before .loop .inv) (c .before .before .before .before .before .before .before .before .before .pre)
@@ -80,7 +80,7 @@ fold-rows-spec =
     Inv-loop
     μ-loop
     loop-holds
-    cast-t21
+    cast-t22
     fold-statement-requires
     enum-known-next
     stored-requires
