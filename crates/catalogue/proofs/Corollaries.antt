@@ -1,10 +1,12 @@
 -- The corollaries, proved: each promise says that a run ends as the definitions do.
 -- Assumes nothing.
-use mathlib.Core.Path.{_≡_, sym, ap, _∙_}
+use mathlib.Core.Path.{_≡_, refl, sym, ap, _∙_}
 use mathlib.Core.List.{List, [], _∷_, map}
-use Prim.Native.Nat.{ℕ}
-use lib.ListN.{length}
-use Rattle.paper.specs.Answer.{number, measure, answer-of, answer, frames-of, diags-of, frames-exit, diags-exit}
+use Prim.Native.Nat.{ℕ, _+_}
+use lib.ListN.{length, take, drop}
+use lib.Seq.{take-at}
+use Rattle.paper.specs.Reader.{given}
+use Rattle.paper.specs.Answer.{Streams, number, frames-used, measure, outcome, answer-of, answer, laid, frames-of, diags-of, frames-exit, diags-exit}
 use Rattle.paper.specs.declared.Setting.{Setting}
 use Rattle.paper.specs.declared.Setting.the-variants.{Short, Full}
 use Rattle.paper.specs.declared.Answer.{Answer}
@@ -19,8 +21,9 @@ use Rattle.theorems.specs.Unique.{Allowed}
 use Rattle.theorems.proofs.Unique.{unique-measure, unique}
 use Rattle.theorems.proofs.Measured.{measured-fits}
 use Rattle.theorems.proofs.Demand3.{demand3}
+use Rattle.theorems.proofs.Later.{later}
 use Rattle.catalogue.specs.Promise.{Measures, Writes}
-use Rattle.catalogue.specs.Corollaries.{ended, OneMeasure, OneResult, OneFound, WritesAsMeasured, Holds, TablesHold, HoldsMeasure, MeasureTablesHold, GroupTakenOut}
+use Rattle.catalogue.specs.Corollaries.{ended, OneMeasure, OneResult, OneFound, WritesAsMeasured, Holds, TablesHold, HoldsMeasure, MeasureTablesHold, GroupTakenOut, LaterUndisturbed}
 
 -- ---- one result
 pub one-measure : OneMeasure
@@ -103,3 +106,16 @@ group-taken-out c t w f d w₁ f₁ d₁ w₂ f₂ d₂ r s p q a b n g h =
       frames-are = b .frames ∙ x .frames-held;
       diags-are = b .diags ∙ x .diags-held;
     }
+
+-- ---- A13
+-- what a run that is done has used of the frame buffer is the frame stream
+used-frames : {c : Setting} {t w w′ f f′ d d′ : List ℕ} {r : Answer} (x : Streams) → Writes c t w w′ f f′ d d′ r
+    → outcome c t (length w) (length f) (length d) ≡ given x → take (frames-used r) f′ ≡ x .frames
+unfolding answer frames-exit laid
+used-frames {f = f} x a e =
+    rw (a .answer, a .frames, e) (take-at (x .frames) (drop (0 + length (x .frames)) f) (length (x .frames)) refl)
+
+pub later-undisturbed : LaterUndisturbed
+later-undisturbed c t u w w₁ f f₁ d d₁ v v₁ g g₁ e e₁ r s a b h q =
+    let x = later c t u (length w) (length f) (length d) (length v) (length g) (length e) h q in
+    rw (used-frames (x .first) a (x .first-are), used-frames (x .second) b (x .second-are)) (x .frames)

@@ -1,10 +1,10 @@
--- What follows from the promises: one result for each input, a writer that does as was measured, the tables of `paper`, and
--- demand 3, of the operations themselves.
+-- What follows from the promises: one result for each input, a writer that does as was measured, the tables of `paper`,
+-- demand 3 and A13, of the operations themselves.
 -- `c` is the setting; `w`, `f` and `d` are work area, frame and diagnostics buffer at entry, with a mark at exit.
 use mathlib.Core.Path.{_≡_}
 use mathlib.Core.List.{List, map}
 use Prim.Native.Nat.{ℕ, _≤_}
-use lib.ListN.{length}
+use lib.ListN.{length, take}
 use Rattle.paper.specs.Answer.{Streams, measured-number, measured-place, frames-needed, diags-needed, measured-count, number, place, frames-used, diags-used, laid}
 use Rattle.paper.specs.declared.Setting.{Setting}
 use Rattle.paper.specs.declared.Refusal.{Refusal}
@@ -19,6 +19,7 @@ use Rattle.paper.proofs.Measures as measures
 use Rattle.theorems.specs.Groups.{Group, statements, blanked, Apart}
 use Rattle.theorems.specs.TakenOut.{taken-out, records-in}
 use Rattle.theorems.specs.Unique as unique
+use Rattle.theorems.specs.Later.{Initial, Followed, Quiet}
 use Rattle.catalogue.specs.Promise.{Measures, Writes, Looks}
 
 -- ---- two runs on the same inputs end alike
@@ -97,3 +98,14 @@ GroupTakenOut =
     → (g : Group t p q)
     → Apart (statements g) p q
     → Without f f₁ f₂ d d₁ d₂ p q r s
+
+-- ---- A13: two runs, on a text and on the text followed by white space and more. What is used of the first frame buffer is an
+-- initial part of what is used of the second.
+abbrev pub LaterUndisturbed : Type 0
+LaterUndisturbed =
+    (c : Setting) (t u w w₁ f f₁ d d₁ v v₁ g g₁ e e₁ : List ℕ) (r s : Answer)
+    → Writes c t w w₁ f f₁ d d₁ r
+    → Writes c u v v₁ g g₁ e e₁ s
+    → Followed c t u (length w) (length f) (length d) (length v) (length g) (length e)
+    → Quiet t u
+    → Initial (take (frames-used r) f₁) (take (frames-used s) g₁)

@@ -24,7 +24,8 @@ use Rattle.theorems.specs.Groups.{Group, statements, blanked, Apart}
 use Rattle.theorems.specs.TakenOut.{taken-out, records-in, streams-without}
 use Rattle.theorems.specs.Demand3.{Blanked, Demand3, frame-outside, diag-outside, diags-in, Exact}
 use Rattle.theorems.proofs.Tokens.{Parts, blanked-parts}
-use Rattle.theorems.proofs.Parts.{Split, split-group, Three, three}
+use Rattle.theorems.proofs.Parts.{Split, split-group}
+use Rattle.theorems.proofs.Three.{Three, three}
 use Rattle.theorems.proofs.Whole.{below-it, within-it, beyond-it}
 use Rattle.theorems.proofs.Fold.{Parted, parted}
 use Rattle.theorems.proofs.Offsets.{diags-at, frames-at}

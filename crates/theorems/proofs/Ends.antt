@@ -11,8 +11,9 @@ use borrow.Author.Tests.{eqb-true}
 use Rattle.paper.specs.Statements.{Statement, Item, opens, closes, states, top, tail, onto, closers, ended, with-end, ends}
 use Rattle.paper.proofs.Tests.{split}
 use Rattle.theorems.specs.Groups.{first, closer}
-use Rattle.paper.proofs.Alls.{All, all-none, all-more}
-use Rattle.theorems.proofs.Reader.{Level, flat, opened, shut-one, stated, ItemAt}
+use Rattle.paper.proofs.Alls.{All, all-none, all-more, all-of}
+use Rattle.theorems.proofs.Reader.{Level, flat, opened, shut-one, stated}
+use Rattle.theorems.proofs.Stands.{ItemAt}
 
 -- ---- E1
 pub closers-append : (i j : List Item) (l : List ℕ) → closers (i ++ j) l ≡ closers i (closers j l)
@@ -32,13 +33,18 @@ ends-append (x ∷ i) j l =
     rw (closers-append i j l, ends-append i j l)
     (with-end-append x (top (closers i (closers j l))) (ends i (closers j l)) (ends j l))
 
--- what holds of where items stand holds of where their statements stand
-pub ends-at : (P : ℕ → Type 0) {i : List Item} (l : List ℕ) → All (ItemAt P) i → All (λ s. P (s .at)) (ends i l)
+-- what holds of items holds of their statements, whatever their ends
+pub ends-all : {Q : Item → Type 0} {R : Statement → Type 0} → ((s : Statement) (q : ℕ) → Q (states s) → R (ended q s))
+    → {i : List Item} (l : List ℕ) → All Q i → All R (ends i l)
 unfolding ends
-ends-at P l all-none = all-none
-ends-at P l (all-more {x = opens p} h a) = ends-at P l a
-ends-at P l (all-more {x = closes p} h a) = ends-at P l a
-ends-at P l (all-more {x = states s} {l = i} h a) = all-more {x = ended (top (closers i l)) s} h (ends-at P l a)
+ends-all f l all-none = all-none
+ends-all f l (all-more {x = opens p} h a) = ends-all f l a
+ends-all f l (all-more {x = closes p} h a) = ends-all f l a
+ends-all f l (all-more {x = states s} {l = i} h a) =
+    all-more {x = ended (top (closers i l)) s} (f s (top (closers i l)) h) (ends-all f l a)
+
+pub ends-at : (P : ℕ → Type 0) {i : List Item} (l : List ℕ) → All (ItemAt P) i → All (λ s. P (s .at)) (ends i l)
+ends-at P l a = ends-all (λ s q h. h) l a
 
 -- ---- the items of a group: from its `${` to the `$}` that closes it
 record Own (r : List Item) (k q : ℕ) : Type 0 where
@@ -130,45 +136,47 @@ owned (opens o ∷ i) p q e =
 owned (closes o ∷ i) p q e = owned-later (closes o) (owned i p q e)
 owned (states s ∷ i) p q e = owned-later (states s) (owned i p q e)
 
--- ---- E2, E3: before a group's body stand as many more closers as it has to close, all of them its own
-pub record Above (i : List Item) (d q : ℕ) (l : List ℕ) : Type 0 where
+-- ---- E2, E3: before items that close what they open stand the closers that stood behind them, and as many more as they close
+pub record Above (P : ℕ → Type 0) (i : List Item) (d : ℕ) (l : List ℕ) : Type 0 where
   pub more : List ℕ
-  pub are : closers i (q ∷ l) ≡ more ++ (q ∷ l)
+  pub are : closers i l ≡ more ++ l
   pub count : length more ≡ d
-  pub low : All (λ n. n < q) more
+  pub low : All P more
 
-pop : {c : List ℕ} {d q : ℕ} {l : List ℕ} (m : List ℕ) → c ≡ m ++ (q ∷ l) → length m ≡ suc d → All (λ n. n < q) m
-    → (k : List ℕ) × (tail c ≡ k ++ (q ∷ l)) × (length k ≡ d) × All (λ n. n < q) k
-pop [] e h a = absurd (omega arith)
-pop (x ∷ m) e h (all-more b a) = (m, ap tail e, omega arith, a)
+module _ {P : ℕ → Type 0} (l : List ℕ) where
+  pop : {c : List ℕ} {d : ℕ} (m : List ℕ) → c ≡ m ++ l → length m ≡ suc d → All P m
+      → (k : List ℕ) × (tail c ≡ k ++ l) × (length k ≡ d) × All P k
+  pop [] e h a = absurd (omega arith)
+  pop (x ∷ m) e h (all-more b a) = (m, ap tail e, omega arith, a)
 
-pub above : {i : List Item} {d : ℕ} (q : ℕ) (l : List ℕ) → Level i d 0 → All (ItemAt (λ n. n < q)) i → Above i d q l
-unfolding closers
-above q l flat all-none = record { more = []; are = refl; count = refl; low = all-none }
-above q l (opened v) (all-more h a) =
-    let r = above q l v a in
-    let k = pop (r .more) (r .are) (r .count) (r .low) in
-    record { more = k .0; are = k .1; count = k .2; low = k .3 }
-above q l (shut-one {q = o} v) (all-more h a) =
-    let r = above q l v a in
-    record {
-      more = o ∷ r .more;
-      are = ap (λ (x : List ℕ). o ∷ x) (r .are);
-      count = omega (arith, r .count);
-      low = all-more h (r .low);
-    }
-above q l (stated v) (all-more h a) =
-    let r = above q l v a in
-    record { more = r .more; are = r .are; count = r .count; low = r .low }
+  above : {i : List Item} {d : ℕ} → Level i d 0 → All (ItemAt P) i → Above P i d l
+  unfolding closers
+  above flat all-none = record { more = []; are = refl; count = refl; low = all-none }
+  above (opened v) (all-more h a) =
+      let r = above v a in
+      let k = pop (r .more) (r .are) (r .count) (r .low) in
+      record { more = k .0; are = k .1; count = k .2; low = k .3 }
+  above (shut-one {q = o} v) (all-more h a) =
+      let r = above v a in
+      record {
+        more = o ∷ r .more;
+        are = ap (λ (x : List ℕ). o ∷ x) (r .are);
+        count = omega (arith, r .count);
+        low = all-more h (r .low);
+      }
+  above (stated v) (all-more h a) =
+      let r = above v a in
+      record { more = r .more; are = r .are; count = r .count; low = r .low }
 
-none-more : {c : List ℕ} {q : ℕ} {l : List ℕ} (m : List ℕ) → c ≡ m ++ (q ∷ l) → length m ≡ 0 → c ≡ q ∷ l
+none-more : {c l : List ℕ} (m : List ℕ) → c ≡ m ++ l → length m ≡ 0 → c ≡ l
 none-more [] e h = e
 none-more (x ∷ m) e h = absurd (omega arith)
 
--- a group leaves the closers after it alone
-pub neutral : {i : List Item} (q : ℕ) (l : List ℕ) → Level i 0 0 → All (ItemAt (λ n. n < q)) i
-    → closers i (q ∷ l) ≡ q ∷ l
-neutral q l v a = let r = above q l v a in none-more (r .more) (r .are) (r .count)
+-- what closes all that it opens leaves the closers after it alone
+pub neutral : {i : List Item} (l : List ℕ) → Level i 0 0 → closers i l ≡ l
+neutral {i} l v =
+    let r = above {P = λ n. Unit} l v (all-of i (λ x. tt)) in
+    none-more (r .more) (r .are) (r .count)
 
 -- ---- E4: all inside ends by q
 top-low : (q : ℕ) (l m : List ℕ) → All (λ n. n < q) m → top (m ++ (q ∷ l)) ≤ q
@@ -182,5 +190,5 @@ ends-low q l flat all-none = all-none
 ends-low q l (opened v) (all-more h a) = ends-low q l v a
 ends-low q l (shut-one v) (all-more h a) = ends-low q l v a
 ends-low q l (stated {s = s} {i = i} v) (all-more h a) =
-    let r = above q l v a in
+    let r = above {P = λ n. n < q} (q ∷ l) v a in
     all-more {x = ended (top (closers i (q ∷ l))) s} (rw (r .are) (top-low q l (r .more) (r .low))) (ends-low q l v a)

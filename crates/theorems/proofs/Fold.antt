@@ -15,8 +15,9 @@ use Rattle.paper.proofs.Tests.{split}
 use Rattle.paper.proofs.Lists.{keep-append}
 use Rattle.paper.proofs.Alls.{All, all-none, all-more, all-append, all-left, all-right, all-map, keep-none}
 use Rattle.theorems.specs.Groups.{Apart}
-use Rattle.theorems.proofs.Parts.{Three}
-use Rattle.theorems.proofs.Whole.{Agree, give-same, agree}
+use Rattle.theorems.proofs.Three.{Three}
+use Rattle.theorems.proofs.Agree.{same-given, give-same}
+use Rattle.theorems.proofs.Whole.{AgreeAll, agree}
 
 -- ---- F2: the statements one part after another
 -- the state after some statements
@@ -126,25 +127,28 @@ quiet w (all-more {x = s} k b) x a h =
     ∙ (ap (plus (view x a)) (spent a (carries w (view x (s .at)) s) (omega arith))
     ∙ plus-nothing (view x a)))
 
+give-equal : {w u : List Statement} {s : Statement} → AgreeAll w u s → (v : State) → give w v s ≡ give u v s
+give-equal a v = same-given (give-same (a .agree) v) (a .symbols-agree)
+
 -- ---- F3: before the group
-pub before-same : {w u l : List Statement} → All (Agree w u) l → (x : State)
+pub before-same : {w u l : List Statement} → All (AgreeAll w u) l → (x : State)
     → (gives w l x ≡ gives u l x) × (later w l x ≡ later u l x)
 unfolding gives later
 before-same all-none x = (refl, refl)
 before-same {w} {u} (all-more {x = s} {l = l} h a) x =
-    let e = give-same h (view x (s .at)) in
+    let e = give-equal h (view x (s .at)) in
     let r = before-same a (plus x (give u (view x (s .at)) s .records)) in
     (rw e (ap (λ (k : List Given). give u (view x (s .at)) s ∷ k) (r .0)), rw e (r .1))
 
 -- ---- F6: after the group
 pub behind-same : {w u l : List Statement} {q : ℕ} (x y : State) → Alike q x y → All (λ s. q < s .at) l
-    → All (Agree w u) l → gives w l x ≡ gives u l y
+    → All (AgreeAll w u) l → gives w l x ≡ gives u l y
 unfolding gives
 behind-same x y k all-none all-none = refl
 behind-same {w} {u} {q = q} x y k (all-more {x = s} p b) (all-more h a) =
     let g = give u (view y (s .at)) s in
     let v : view x (s .at) ≡ view y (s .at) = k (s .at) p in
-    let e : give w (view x (s .at)) s ≡ g = rw v (give-same h (view y (s .at))) in
+    let e : give w (view x (s .at)) s ≡ g = rw v (give-equal h (view y (s .at))) in
     let f : Alike q (plus x (g .records)) (plus y (g .records)) =
     λ c d. view-plus x (g .records) c ∙ (rw (k c d) (sym (view-plus y (g .records) c))) in
     rw e (ap (λ (r : List Given). g ∷ r) (behind-same (plus x (g .records)) (plus y (g .records)) f b a))
@@ -160,7 +164,7 @@ pub parted : {w x : List Statement} {p q : ℕ} (h : Three w x p q) → q < none
     → Parted w x (h .before) (h .within-it) (h .behind)
 unfolding all-given
 parted {w} {x} {p} {q} h k a =
-    let g : All (Agree w x) (h .before ++ h .behind) = subst (All (Agree w x)) (h .without) (agree h a k) in
+    let g : All (AgreeAll w x) (h .before ++ h .behind) = subst (All (AgreeAll w x)) (h .without) (agree h a k) in
     let b = before-same (all-left (h .before) (h .behind) g) nothing in
     let first = later w (h .before) nothing in
     let third = later w (h .within-it) first in

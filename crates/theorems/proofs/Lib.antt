@@ -1,10 +1,17 @@
 pub mod Tokens
 pub mod Comments
+pub mod Gives
 pub mod Reader
+pub mod Stands
+pub mod Cuts
+pub mod Texts
 pub mod Ends
 pub mod Parts
+pub mod Three
+pub mod Agree
 pub mod Whole
 pub mod Fold
+pub mod Added
 pub mod Streams
 pub mod Offsets
 pub mod Weights
@@ -16,5 +23,7 @@ pub mod Short
 pub mod Records
 pub mod Demand3
 pub mod Examples
+pub mod Later
+pub mod LaterExamples
 pub mod Unique
 pub mod Measured

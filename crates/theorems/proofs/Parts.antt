@@ -4,48 +4,23 @@ use mathlib.Core.Path.{_≡_, refl, sym, ap, _∙_}
 use mathlib.Core.Bool.{true}
 use mathlib.Core.List.{List, [], _∷_, _++_}
 use mathlib.Core.Option.{some}
-use Prim.Native.Nat.{ℕ, zero, suc, _+_, _<_, _≤_}
+use Prim.Native.Nat.{ℕ, suc, _+_, _<_, _≤_}
 use native.Mathlib.Omega.{arith}
 use lib.ListN.{length, replicate, length-append}
 use Rattle.paper.specs.Tokens.{Token, key, toks, tokens}
-use Rattle.paper.specs.Comments.{Place, outside, inside, after, bracketed, visible}
-use Rattle.paper.specs.Statements.{Statement, Item, opens, closes, closers, ends}
-use Rattle.paper.specs.Reader.{Mode, start, named, math, proof, Step, go, stop, many, given, finish, ending, items}
+use Rattle.paper.specs.Comments.{outside, after, bracketed, visible}
+use Rattle.paper.specs.Statements.{Item, opens, closes}
+use Rattle.paper.specs.Reader.{Mode, start, given, items}
 use Rattle.paper.proofs.Tests.{same-eq}
 use Rattle.theorems.specs.Groups.{closer, blanked}
-use Rattle.paper.proofs.Alls.{All, all-map}
-use Rattle.theorems.proofs.Tokens.{cut, toks-within, Parts, blanked-parts, toks-parts}
-use Rattle.theorems.proofs.Comments.{after-append, visible-append, visible-all, plain-key, shown-cut, shown-after}
-use Rattle.theorems.proofs.Reader.{Reads, many-reads, reads-many, reads-append, Level, reads-level, level-shift, TokenAt, ItemAt, reads-at, reads-cut, brace-opened, brace-closed}
-use Rattle.theorems.proofs.Ends.{closers-append, ends-append, ends-at, Owned, owned, neutral, ends-low}
-
--- ---- a text is read: the reader stands between statements, at depth 0, outside comments
-pub record Read (l : List Token) (i : List Item) : Type 0 where
-  pub all : many (visible l outside) (go start 0 []) ≡ go start 0 i
-  pub out : after l outside ≡ outside
-
-module _ {i : List Item} (n : ℕ) where
-  finished : (m : Mode) (d : ℕ) (j : List Item) → finish m d j n ≡ given i → go m d j ≡ go start 0 i
-  finished start zero j e = let a : j ≡ i = cc in rw a
-  finished start (suc d) j e = let c : _≡_ {A = ℕ} 0 1 = cc in absurd (omega arith)
-  finished (named t) d j e = let c : _≡_ {A = ℕ} 0 1 = cc in absurd (omega arith)
-  finished (math k o l m) d j e = let c : _≡_ {A = ℕ} 0 1 = cc in absurd (omega arith)
-  finished (proof o l m p) d j e = let c : _≡_ {A = ℕ} 0 1 = cc in absurd (omega arith)
-
-  closed-at : (p : Place) (z : Step) → ending z p n ≡ given i → (z ≡ go start 0 i) × (p ≡ outside)
-  closed-at outside (go m d j) e = (finished m d j e, refl)
-  closed-at (inside o) (go m d j) e = let c : _≡_ {A = ℕ} 0 1 = cc in absurd (omega arith)
-  closed-at p (stop o) e = let c : _≡_ {A = ℕ} 0 1 = cc in absurd (omega arith)
-
-pub items-read : (l : List Token) (n : ℕ) (i : List Item) → items l n ≡ given i → Read l i
-unfolding items
-items-read l n i e =
-    let c = closed-at n (after l outside) (many (visible l outside) (go start 0 [])) e in
-    record { all = c .0; out = c .1 }
-
-pub read-items : {l : List Token} {i : List Item} (n : ℕ) → Read l i → items l n ≡ given i
-unfolding items
-read-items n r = rw (r .all, r .out)
+use Rattle.paper.proofs.Alls.{All}
+use Rattle.theorems.proofs.Tokens.{cut, Parts, blanked-parts, toks-parts}
+use Rattle.theorems.proofs.Comments.{after-append, visible-append, plain-key, shown-cut, shown-after}
+use Rattle.theorems.proofs.Reader.{Reads, reads-many, reads-append, Level, reads-level, level-shift}
+use Rattle.theorems.proofs.Stands.{ItemAt, reads-at}
+use Rattle.theorems.proofs.Cuts.{reads-cut, brace-opened, brace-closed}
+use Rattle.theorems.proofs.Texts.{Read, items-read, read-items, read-reads, shown-at}
+use Rattle.theorems.proofs.Ends.{Owned, owned}
 
 -- ---- R5: the visible tokens
 record Braces (u : List Token) (x b y : List Item) (p q : ℕ) : Type 0 where
@@ -188,12 +163,6 @@ pub record Split (t : List ℕ) (p q : ℕ) (i : List Item) : Type 0 where
   pub fewer : length (tokens (blanked t p q)) ≤ length (tokens t)
   pub blanked-read : (n : ℕ) → items (tokens (blanked t p q)) n ≡ given (front ++ back)
 
--- where the visible tokens of some bytes stand
-pub shown-at : (l : List ℕ) (o : ℕ) {x u : List Token} (P : ℕ → Type 0) → ((n : ℕ) → o ≤ n → n < o + length l → P n)
-    → toks l o ≡ x → visible x outside ≡ u → All (TokenAt P) u
-shown-at l o P f a b =
-    rw (← b, ← a) (visible-all outside (all-map (λ t h. f (t .at) (h .0) (h .1)) (toks-within l o)))
-
 fewer-tokens : (x m z : List Token) (tp tq : Token) → length (x ++ z) ≤ length (x ++ (tp ∷ (m ++ (tq ∷ z))))
 fewer-tokens x m z tp tq =
     omega (arith, length-append x z, length-append x (tp ∷ (m ++ (tq ∷ z))), length-append m (tq ∷ z))
@@ -240,11 +209,6 @@ split-by t p q i o b l y out =
           (joined (l .before) (l .behind) (l .shown-before) (l .out-before) (l .shown-behind) (sym (l .out-behind) ∙ out) (b .read-before) (b .read-behind)));
     }
 
-pub read-reads : {l : List Token} {i : List Item} → Read l i → Reads (visible l outside) start 0 i start 0
-read-reads {l} {i} h =
-    let r = many-reads (visible l outside) start 0 [] start 0 i (h .all) in
-    rw (r .sum) (r .reads)
-
 key-bytes : (k : ℕ) (t : Token) → key k t ≡ true → t .bytes ≡ 36 ∷ k ∷ []
 unfolding key
 key-bytes k t e = same-eq (t .bytes) (36 ∷ k ∷ []) e
@@ -259,39 +223,3 @@ split-group t p q i e c =
     let l = places (tokens t) (b .before) (b .left-brace) (b .middle) (b .right-brace) (b .behind) (b .opens-here) (b .closes-here) (b .tokens) in
     let y = bytes-of t (l .before) (l .middle) (l .behind) (b .left-brace) (b .right-brace) p q (l .tokens) (key-bytes 123 (b .left-brace) (b .opens-here)) (b .from) (key-bytes 125 (b .right-brace) (b .closes-here)) (b .to) in
     split-by t p q i o b l y (h .out)
-
--- ---- E3: the statements of the text with the group blanked are those before and after it, with equal ends
-pub record Three (w x : List Statement) (p q : ℕ) : Type 0 where
-  pub before : List Statement
-  pub within-it : List Statement
-  pub behind : List Statement
-  pub whole : w ≡ before ++ (within-it ++ behind)
-  pub without : x ≡ before ++ behind
-  pub before-at : All (λ s. s .at < p) before
-  pub within-at : All (λ s. (p ≤ s .at) × (s .at < q)) within-it
-  pub within-end : All (λ s. s .end ≤ q) within-it
-  pub behind-at : All (λ s. q < s .at) behind
-
-module _ (f : List Item) (p : ℕ) (b : List Item) (q : ℕ) (c : List Item) (n : closers b (q ∷ closers c []) ≡ q ∷ closers c []) where
-  whole-ends : ends (f ++ (opens p ∷ (b ++ (closes q ∷ c)))) [] ≡ ends f (closers c []) ++ (ends b (q ∷ closers c []) ++ ends c [])
-  unfolding ends closers
-  whole-ends =
-      ends-append f (opens p ∷ (b ++ (closes q ∷ c))) []
-      ∙ rw (closers-append b (closes q ∷ c) [], n, ends-append b (closes q ∷ c) [])
-
-pub three : {t : List ℕ} {p q : ℕ} {i : List Item} (x : Split t p q i)
-    → Three (ends i []) (ends (x .front ++ x .back) []) p q
-three {p = p} {q = q} x =
-    let low = all-map (λ y h. h .1) (x .body-at) in
-    let l = closers (x .back) [] in
-    record {
-      before = ends (x .front) l;
-      within-it = ends (x .body) (q ∷ l);
-      behind = ends (x .back) [];
-      whole = ap (λ (r : List Item). ends r []) (x .items-are) ∙ whole-ends (x .front) p (x .body) q (x .back) (neutral q l (x .level) low);
-      without = ends-append (x .front) (x .back) [];
-      before-at = ends-at (λ n. n < p) l (x .front-at);
-      within-at = ends-at (λ n. (p ≤ n) × (n < q)) (q ∷ l) (x .body-at);
-      within-end = ends-low q l (x .level) low;
-      behind-at = ends-at (λ n. q < n) [] (x .back-at);
-    }

@@ -27,9 +27,9 @@ use Rattle.paper.proofs.Alls.{All, all-map, all-both, all-keep}
 use Rattle.paper.proofs.Searches.{all-gather, find-none, all-true}
 use Rattle.theorems.specs.TakenOut.{taken-out, records-in}
 use Rattle.theorems.specs.Demand3.{Offsets, frame-outside, diags-in, Exact, Walked}
-use Rattle.theorems.proofs.Reader.{reads-at}
+use Rattle.theorems.proofs.Stands.{reads-at}
 use Rattle.theorems.proofs.Ends.{ends-at}
-use Rattle.theorems.proofs.Parts.{items-read, read-reads, shown-at}
+use Rattle.theorems.proofs.Texts.{items-read, read-reads, shown-at}
 use Rattle.theorems.proofs.Streams.{offset-framed, Sound, taken-gather, counted-gather}
 use Rattle.theorems.proofs.Offsets.{give-at, diags-at, frames-at}
 use Rattle.theorems.proofs.Weights.{statements-weight, text-weight}

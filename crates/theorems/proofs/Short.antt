@@ -23,7 +23,7 @@ use Rattle.paper.proofs.Tests.{split}
 use Rattle.paper.proofs.Sums.{total}
 use Rattle.paper.proofs.Alls.{All, all-none, all-more, all-map, all-both, all-first}
 use Rattle.paper.proofs.Searches.{find-none}
-use Rattle.theorems.proofs.Reader.{statement-weight}
+use Rattle.theorems.proofs.Gives.{statement-weight}
 use Rattle.theorems.proofs.Weights.{statements-weight, text-weight, state-weight, view-weight, plus-weight, formula-light, two-light, light}
 use Rattle.theorems.proofs.Lengths.{u16-length, u32-length, kind-of, rest-of, frame-framed, Short, stub-short, full-short}
 use Rattle.theorems.proofs.Restricted.{restricted-length}

@@ -78,7 +78,7 @@ pub record Cut (l : List ℕ) (o : ℕ) (x : List Token) (t : Token) (z : List T
   pub right : toks behind ((o + length before) + length (t .bytes)) ≡ z
 
 -- the same for the tokens after the run at the front
-record Later (l : List ℕ) (o : ℕ) (x : List Token) (t : Token) (z : List Token) : Type 0 where
+record CutLater (l : List ℕ) (o : ℕ) (x : List Token) (t : Token) (z : List Token) : Type 0 where
   before : List ℕ
   behind : List ℕ
   bytes : l ≡ before ++ (t .bytes ++ behind)
@@ -87,7 +87,7 @@ record Later (l : List ℕ) (o : ℕ) (x : List Token) (t : Token) (z : List Tok
   left : run before o .rest ≡ x
   right : toks behind ((o + length before) + length (t .bytes)) ≡ z
 
-later-cut : {l : List ℕ} {o : ℕ} {x : List Token} {t : Token} {z : List Token} → Later l o x t z
+later-cut : {l : List ℕ} {o : ℕ} {x : List Token} {t : Token} {z : List Token} → CutLater l o x t z
     → Cut l o (put o (run l o .head) x) t z
 unfolding toks
 later-cut c =
@@ -102,7 +102,7 @@ later-cut c =
 
 -- by the run at the front: none, or the first token
 cut-by : (l : List ℕ) (o : ℕ) (h : List ℕ) (x : List Token) (t : Token) (z : List Token) → run l o .head ≡ h
-    → ((y : List Token) → run l o .rest ≡ y ++ (t ∷ z) → Later l o y t z) → put o h (run l o .rest) ≡ x ++ (t ∷ z)
+    → ((y : List Token) → run l o .rest ≡ y ++ (t ∷ z) → CutLater l o y t z) → put o h (run l o .rest) ≡ x ++ (t ∷ z)
     → Cut l o x t z
 unfolding run toks
 cut-by l o [] x t z e f g = let c = later-cut (f x g) in rw e at c
@@ -126,7 +126,7 @@ cut-by l o (b ∷ h) (y ∷ x) t z e f g =
     rw (e, u) at c
 
 cut-later : (l : List ℕ) (o : ℕ) (x : List Token) (t : Token) (z : List Token) → run l o .rest ≡ x ++ (t ∷ z)
-    → Later l o x t z
+    → CutLater l o x t z
 unfolding run toks
 cut-later [] o x t z g = absurd (not-nil x t z g)
 cut-later (b ∷ l) o x t z g =

@@ -17,8 +17,9 @@ use Rattle.paper.specs.Frames.{Frame}
 use Rattle.paper.specs.Give.{Given, accept, unless, give-c, give-v, give-d, give-f, give-e, give-assertion, give-by, give}
 use Rattle.paper.proofs.Tests.{split}
 use Rattle.paper.proofs.Sums.{total, total-append, total-keep}
-use Rattle.theorems.proofs.Reader.{weight, statement-weight, items-weight, reads-weight}
-use Rattle.theorems.proofs.Parts.{items-read, read-reads}
+use Rattle.theorems.proofs.Gives.{weight, statement-weight}
+use Rattle.theorems.proofs.Stands.{items-weight, reads-weight}
+use Rattle.theorems.proofs.Texts.{items-read, read-reads}
 
 -- ---- tokens of bytes
 put-weight : (o : ℕ) (h : List ℕ) (l : List Token) → weight (put o h l) ≤ suc (length h) + weight l

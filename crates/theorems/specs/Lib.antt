@@ -5,3 +5,5 @@ pub mod Examples
 pub mod Unique
 pub mod Measured
 pub mod Restricted
+pub mod Later
+pub mod LaterExamples
