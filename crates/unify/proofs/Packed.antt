@@ -19,7 +19,7 @@ use Rattle.paper.proofs.Gather.{map-append, gather-one}
 use Rattle.paper.proofs.Alls.{All, all-more}
 use Rattle.unify.specs.Entries.{flag, plain, agrees, last-flag, entry-of}
 use Rattle.unify.specs.Bound.{token-words, spread, is-entry}
-use Rattle.unify.specs.Packed.{symbol-word, body-words, formula-words, packed, Tells, stands}
+use Rattle.unify.specs.Packed.{symbol-word, body-words, formula-words, packed, AtomsTell, stands}
 
 -- ---- the last flag below the end of an entry that starts at s
 start-at : (l : List ℕ) (s j : ℕ) → flag ≤ getD l s 0 → ((i : ℕ) → i < j → getD l (suc (s + i)) 0 < flag) → last-flag l (suc (s + j)) ≡ s
@@ -106,7 +106,7 @@ module _ (a : List ℕ → ℕ) (low : (n : List ℕ) → a n < flag) where
   agrees-entry (z ∷ x) (u ∷ y) l =
       ap (λ (r : Bool). choose (eqb (symbol-word a z) (symbol-word a u)) r false) (agrees-entry x y l)
 
-same-words : (a : List ℕ → ℕ) {fine : Symbol → Type 0} → Tells a fine → (x y : List Symbol) → All fine x → All fine y → same-body x y ≡ sameb (body-words a x) (body-words a y)
+same-words : (a : List ℕ → ℕ) {fine : Symbol → Type 0} → AtomsTell a fine → (x y : List Symbol) → All fine x → All fine y → same-body x y ≡ sameb (body-words a x) (body-words a y)
 unfolding same-body body-words sameb
 same-words a k [] [] p q = refl
 same-words a k [] (z ∷ y) p q = refl
@@ -136,7 +136,7 @@ module _ (a : List ℕ → ℕ) (w : List ℕ) (n : ℕ) (l : List ℕ) (b : Lis
   expanded f p = ap (entry-of (a (f .typecode))) (spread-stands (f .body) p)
 
   -- an entry matches where it is the substituted formula
-  pub entry-matches : {fine : Symbol → Type 0} → Tells a fine → (front : List ℕ) (e f : Formula) (rest : List Formula) → l ≡ front ++ (formula-words a e ++ packed a rest)
+  pub entry-matches : {fine : Symbol → Type 0} → AtomsTell a fine → (front : List ℕ) (e f : Formula) (rest : List Formula) → l ≡ front ++ (formula-words a e ++ packed a rest)
       → All (stands a w n l b) (f .body) → fine (con (e .typecode)) → fine (con (f .typecode)) → All fine (e .body) → All fine (gather (replaced b) (f .body))
       → is-entry w n (a (f .typecode)) (body-words a (f .body)) l (length front) ≡ same-formula (substituted b f) e
   unfolding is-entry substituted formula-words entry-of symbol-word

@@ -27,7 +27,7 @@ unfoldable pub packed : (List ℕ → ℕ) → List Formula → List ℕ
 packed a l = gather (formula-words a) l
 
 -- atoms are below the flag, and among the symbols that are fine they tell which are the same
-pub record Tells (a : List ℕ → ℕ) (fine : Symbol → Type 0) : Type 0 where
+pub record AtomsTell (a : List ℕ → ℕ) (fine : Symbol → Type 0) : Type 0 where
   pub low : (n : List ℕ) → a n < flag
   pub same : (x y : Symbol) → fine x → fine y → same-symbol x y ≡ eqb (symbol-word a x) (symbol-word a y)
 

@@ -8,13 +8,13 @@ use Rattle.unify.specs.declared.Placed.{Placed}
 use Rattle.unify.specs.declared.Placed.the-variants.{Upto, NoRoom}
 
 -- the stack l becomes m, with the words x from p up to q
-pub record Laid (l m : List ℕ) (p q : ℕ) (x : List ℕ) : Type 0 where
+pub record LaidFrom (l m : List ℕ) (p q : ℕ) (x : List ℕ) : Type 0 where
   pub front : take q m ≡ take p l ++ x
   pub place : q ≡ p + length x
   pub within : q ≤ length m
 
 abbrev pub laid-or-not : Placed → List ℕ → List ℕ → ℕ → List ℕ → Type 0
-laid-or-not (Upto q) l m p x = Laid l m p q x
+laid-or-not (Upto q) l m p x = LaidFrom l m p q x
 laid-or-not NoRoom l m p x = length l < p + length x
 
 pub record Pushes (l m : List ℕ) (p : ℕ) (r : Placed) (x : List ℕ) : Type 0 where
