@@ -13,6 +13,7 @@ pub mod Lookups
 pub mod Readings
 pub mod Measures
 pub mod Conversions
+pub mod Proofs
 pub mod Marked
 pub mod Lines
 pub mod Shorts

@@ -1,7 +1,7 @@
 -- Numbers given back: what measure and writer answer, with 0 to 9 in their order, and every lent buffer at exit.
 -- Numbers 1 to 9 report all lengths as 0 and change neither output buffer; the measure gives none of 8 and 9.
 use mathlib.Core.Bool.{Bool, false}
-use mathlib.Core.List.{List, _++_}
+use mathlib.Core.List.{List, [], _++_}
 use mathlib.Core.Option.{Option, none, some}
 use Prim.Native.Nat.{ℕ, _+_}
 use lib.Dec.{ltb}
@@ -12,7 +12,8 @@ use Rattle.paper.specs.Statements.{Statement}
 use Rattle.paper.specs.Reader.{Outcome, refused, given, reading}
 use Rattle.paper.specs.Frames.{Frame, stub, full}
 use Rattle.paper.specs.Give.{Given, all-given}
-use Rattle.paper.specs.Records.{frame-stream, diag-stream}
+use Rattle.paper.specs.Verdicts.{ProofEnd, all-verdicts, exceeding}
+use Rattle.paper.specs.Records.{frame-stream, diag-stream, verdict-stream}
 use Rattle.paper.specs.declared.Refusal.{Refusal}
 use Rattle.paper.specs.declared.Refusal.the-variants.{LongText, ShortWork, BadByte, OpenComment, BadToken, OpenText, ManyVariables, ShortFrames, ShortDiags}
 use Rattle.paper.specs.declared.Setting.{Setting}
@@ -183,6 +184,45 @@ answer-of t (given s) = Done (length (s .frames)) (length (s .diags)) (s .count)
 
 unfoldable pub answer : Setting → List ℕ → ℕ → ℕ → ℕ → Answer
 answer c t w f d = answer-of t (outcome c t w f d)
+
+-- ---- the proofs (document 02, A1): number 12 at the first `$p` that exceeds the stack; then 17 with the bytes needed, for a
+-- verdict buffer that is too short; else the verdict stream. Both come after 9
+pub data Proofs : Type 0 where
+  short-stack : ℕ → Proofs
+  short-verdicts : ℕ → Proofs
+  judged : List ℕ → Proofs
+
+abbrev pub proofs-number : Proofs → ℕ
+proofs-number (short-stack p) = 12
+proofs-number (short-verdicts p) = 17
+proofs-number (judged b) = 0
+
+abbrev pub proofs-place : Proofs → ℕ
+proofs-place (short-stack p) = p
+proofs-place (short-verdicts p) = p
+proofs-place (judged b) = 0
+
+abbrev pub verdicts-of : Proofs → List ℕ
+verdicts-of (short-stack p) = []
+verdicts-of (short-verdicts p) = []
+verdicts-of (judged b) = b
+
+-- a verdict buffer of n bytes
+abbrev pub unless-short : Option ProofEnd → List ℕ → ℕ → Proofs
+unless-short (some x) b n = short-stack (x .at)
+unless-short none b n = choose (ltb n (length b)) (short-verdicts (length b)) (judged b)
+
+unfoldable pub judging : List ProofEnd → ℕ → Proofs
+judging l n = unless-short (find (λ x. exceeding (x .ending)) l) (verdict-stream l) n
+
+abbrev pub proofs-of : Outcome (List Statement) → ℕ → ℕ → Outcome Proofs
+proofs-of (refused r) k n = refused r
+proofs-of (given l) k n = given (judging (all-verdicts k l) n)
+
+-- the proofs of a text that gets none of numbers 7 to 9, given so many words of work area and of stack and bytes of verdict
+-- buffer; or one of numbers 1 to 6
+unfoldable pub proofs : List ℕ → ℕ → ℕ → ℕ → Outcome Proofs
+proofs t w k n = proofs-of (reading t w) k n
 
 -- ---- what the lent buffers hold at exit
 -- the bytes b laid over a buffer from a place on; the others keep their contents

@@ -14,6 +14,10 @@ pub mod Expressions
 pub mod Pairs
 pub mod Frames
 pub mod Give
+pub mod Citations
+pub mod Substitution
+pub mod Steps
+pub mod Verdicts
 pub mod Records
 pub mod Answer
 pub mod Lookup

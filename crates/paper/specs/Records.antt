@@ -10,6 +10,8 @@ use Rattle.paper.specs.Expressions.{Fragment, Expression, Hypothesis, of
 use Rattle.paper.specs.Pairs.{Pair}
 use Rattle.paper.specs.Frames.{Full, Frame, stub, full, frame-as}
 use Rattle.paper.specs.Give.{Given}
+use Rattle.paper.specs.Steps.{Ending, right, wrong, incomplete, exceeds}
+use Rattle.paper.specs.Verdicts.{ProofEnd}
 use Rattle.paper.specs.declared.Setting.{Setting}
 
 -- the k lowest bytes of n
@@ -93,3 +95,17 @@ frame-stream c l = gather (frame-records c) l
 
 unfoldable pub diag-stream : List Given → List ℕ
 diag-stream l = gather diag-records l
+
+-- ---- Verdict (document 02, A1): length 10, u16 1 right, 2 wrong, 3 incomplete (`?`), u32 statement, u32 step from 1 (0 if
+-- right). A proof that exceeds the stack has none
+abbrev pub verdict-bytes : ℕ → Ending → List ℕ
+verdict-bytes o right = framed 1 (u32 o ++ u32 0)
+verdict-bytes o (wrong i) = framed 2 (u32 o ++ u32 i)
+verdict-bytes o (incomplete i) = framed 3 (u32 o ++ u32 i)
+verdict-bytes o exceeds = []
+
+unfoldable pub verdict-record : ProofEnd → List ℕ
+verdict-record x = verdict-bytes (x .at) (x .ending)
+
+unfoldable pub verdict-stream : List ProofEnd → List ℕ
+verdict-stream l = gather verdict-record l
