@@ -19,6 +19,20 @@ fn stubbed(stream: &[u8]) -> Vec<u8> {
     out
 }
 
+/// A stream with kind 4 for kind 1: 128 taken off the last byte. Every record of the stream fits its layout.
+fn renewed(stream: &[u8]) -> Vec<u8> {
+    let (mut out, mut at) = (stream.to_vec(), 0);
+    while at < out.len() {
+        let after = at + 4 + number_at(&out[at..], 0, 4);
+        if number_at(&out[at..], 4, 2) == 1 {
+            out[at + 4] = 4;
+            out[after - 1] -= 128;
+        }
+        at = after;
+    }
+    out
+}
+
 fn converted(stream: &[u8], room: usize) -> (u32, u64, u64, Vec<u8>) {
     let mut out = vec![0xA5; room];
     let a = convert(stream, &mut out);
@@ -44,7 +58,7 @@ fn damaged_streams() {
         let stream = damaged(&mut random, &stubbed(&v.frames), &[0, 1, 2, 3, 4, 127, 128, 255]);
         let (number, place, used, out) = converted(&stream, stream.len());
         match number {
-            0 => assert_eq!((place, used, stubbed(&out).len()), (0, stream.len() as u64, stream.len()), "{}", v.name),
+            0 => assert_eq!((place, used, out), (0, stream.len() as u64, renewed(&stream)), "{}", v.name),
             10 => assert!(place < stream.len() as u64 && used == 0 && out.iter().all(|b| *b == 0xA5), "{}", v.name),
             _ => panic!("{}: number {number}", v.name),
         }

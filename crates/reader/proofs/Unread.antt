@@ -17,12 +17,12 @@ use Rattle.paper.specs.declared.Reading.{Reading}
 use Rattle.paper.specs.declared.Reading.the-variants.{Unread}
 use Rattle.paper.specs.declared.Refusal.the-variants.{LongText, ShortWork, BadByte}
 use Rattle.paper.proofs.Tests.{split}
+use Rattle.area.specs.Cells.{Cleared}
 use Rattle.token.specs.Words.{Lined}
 use Rattle.token.specs.Count.{bad-of, count-of}
 use Rattle.token.specs.declared.cursor.Cursor.{Cursor}
 use Rattle.token.specs.declared.count.Counted.{Counted}
 use Rattle.token.specs.declared.count.Bad.the-variants.{At, Nowhere}
-use Rattle.area.specs.Cells.{Cleared}
 use Rattle.reader.specs.Kept.{Words}
 use Rattle.reader.specs.Whole.{TextRead, Reads}
 use Rattle.reader.proofs.Keeping.{words-start}
@@ -52,7 +52,7 @@ pub counted-tokens : (t : List ℕ) {x : Counted} → x ≡ count-of t → x .to
 counted-tokens t e = ap (λ (y : Counted). y .tokens) e
 
 module _ (t w : List ℕ) where
-  -- a refusal, where every word is 0
+  -- refusals, where every word is 0
   pub read-long : {v : List ℕ} → v ≡ replicate (length w) 0 → 16777216 < length t → Reads t w v (Unread LongText 0)
   unfolding reading
   read-long z h = rw (lt-ltb 16777216 (length t) h) (refl, z)
@@ -68,13 +68,13 @@ module _ (t w : List ℕ) where
       fits : ltb (length w) (16 * (length (tokens t) + 1)) ≡ false
       fits = let q = counted-tokens t e in le-ltb (length w) (16 * (length (tokens t) + 1)) (omega (arith, l, q))
 
-      pub read-bad : {v : List ℕ} → v ≡ replicate (length w) 0 → (p : ℕ) → x .bad ≡ At p → {c : Cursor} → c .at ≡ p → Lined t c
-          → Reads t w v (Unread (BadByte p) (c .line))
+      pub read-bad : {v : List ℕ} → v ≡ replicate (length w) 0 → (p : ℕ) → x .bad ≡ At p → {c : Cursor} → c .at ≡ p → Lined t c → Reads t w v (Unread (BadByte p) (c .line))
       unfolding reading words
       read-bad z p q {c} o y =
           let b : bad-from t 0 ≡ some p = bad-some (bad-from t 0) p (sym (ap (λ (y : Counted). y .bad) e) ∙ q) in
           rw (le-ltb 16777216 (length t) h, fits, b, y, o) (refl, z)
 
+      -- the bucket column is 0 when reading begins
       module _ {v : List ℕ} (z : Cleared (7 * (x .tokens + 1)) (8 * (x .tokens + 1)) w v) where
         pub read-begin : Words t v (x .tokens + 1) [] 0 0 0
         read-begin = let q = counted-tokens t e in words-start (rw q refl) l h z

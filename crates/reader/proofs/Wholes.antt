@@ -7,8 +7,8 @@ use Prim.Native.Nat.{ℕ, zero, suc, _+_, _*_, _<_, _≤_}
 use native.Mathlib.Nat.{not-suc-le-zero, le-of-suc-le-suc}
 use native.Mathlib.Omega.{arith}
 use lib.Dec.{ltb}
-use lib.ListN.{length, take, replicate, length-append, length-replicate}
-use borrow.Author.Tests.{ltb-true, ltb-false, lt-ltb, le-ltb}
+use lib.ListN.{length, take, replicate, length-append}
+use borrow.Author.Tests.{ltb-true, ltb-false}
 use Rattle.paper.specs.Base.{gather}
 use Rattle.paper.specs.Tokens.{Token, tokens}
 use Rattle.paper.specs.Comments.{outside}
