@@ -7,21 +7,21 @@ pub mod tokens;
 pub mod walks;
 
 /// What stands against recording a nested `$v` token: a kind and the declaring token, or nothing.
-#[derive(Drop)]
+#[derive(Clone, Copy)]
 pub enum Verdict {
     Against(u32, TokenOffset),
     Record,
 }
 
 /// The `$f` that a variable has already, or nothing.
-#[derive(Drop)]
+#[derive(Clone, Copy)]
 pub enum Earlier {
     At(StatementOffset),
     Nothing,
 }
 
 /// The two tokens of a `$f`.
-#[derive(Drop)]
+#[derive(Clone, Copy)]
 pub struct FloatTokens {
     pub typecode: Atom,
     pub variable: Atom,

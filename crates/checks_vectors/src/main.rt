@@ -9,7 +9,7 @@ use paper::Reading;
 use stream::walk::u16_at;
 use stream::write::put_u16;
 
-#[derive(Drop)]
+#[derive(Clone, Copy)]
 pub enum Diagnosis {
     Refused,
     Used(usize),

@@ -11,7 +11,7 @@ use paper::{StatementRow, TokenIndex, TokenRow, VariableNumber};
 use slots::cells;
 
 /// Where the rows of a frame stand, the bytes of a row, how many rows there are, and the number of mandatory variables.
-#[derive(Drop)]
+#[derive(Clone, Copy)]
 pub struct Grid {
     pub at: usize,
     pub width: usize,

@@ -11,14 +11,14 @@ use scopeck::statements::{check_statement, forget_all};
 use slots::cells::of_statement;
 
 /// The state after a statement and the place after its frame, or too many variables.
-#[derive(Drop)]
+#[derive(Clone, Copy)]
 pub enum Step {
     Next(Scope, usize),
     Over,
 }
 
 /// The used lengths of frames and diagnostics and the number of frames, or the first assertion with too many variables.
-#[derive(Drop)]
+#[derive(Clone, Copy)]
 pub enum Folded {
     Streams(usize, usize, usize),
     TooMany(StatementOffset),

@@ -7,7 +7,7 @@ use sight::mark_constants;
 use token::count::count;
 
 /// N + 1 and the number of names.
-#[derive(Drop)]
+#[derive(Clone, Copy)]
 pub struct Started {
     pub n: usize,
     pub names: usize,

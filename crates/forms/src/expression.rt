@@ -11,7 +11,7 @@ use paper::{Atom, StatementRow, TokenIndex, VariableNumber};
 
 /// The place reached in the buffer; the fragment in hand: where it starts in the pool, and the place reached there; and the
 /// number of variables so far.
-#[derive(Drop)]
+#[derive(Clone, Copy)]
 pub struct Reached {
     pub at: usize,
     pub from: usize,

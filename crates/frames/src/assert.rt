@@ -7,7 +7,7 @@ use crate::scan::{scan_dv, scan_expression};
 use paper::{Setting, StatementRow, TokenIndex};
 
 /// The place after the record, or too many variables.
-#[derive(Drop)]
+#[derive(Clone, Copy)]
 pub enum Built {
     After(usize),
     TooMany,

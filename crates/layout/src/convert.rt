@@ -14,7 +14,7 @@ use stream::walk::{u16_at, u32_at};
 use stream::write;
 
 /// The first record that does not fit its layout.
-#[derive(Drop)]
+#[derive(Clone, Copy)]
 pub enum Unfitting {
     First(usize),
     Nowhere,

@@ -11,7 +11,7 @@ use stream::walk::{is_stub, u16_at, u32_at};
 pub const ADDRESS: usize = 4;
 
 /// The place after a part, or that there is none.
-#[derive(Drop)]
+#[derive(Clone, Copy)]
 pub enum Reached {
     Upto(usize),
     Short,

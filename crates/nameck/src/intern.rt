@@ -12,7 +12,7 @@ use paper::Atom;
 const LEFT: usize = 2;
 
 /// The atom of a name, and the number of distinct names afterwards.
-#[derive(Drop)]
+#[derive(Clone, Copy)]
 pub struct Interned {
     pub atom: Atom,
     pub names: usize,
@@ -94,7 +94,7 @@ pub fn link_of(n: usize, row: usize, right: bool) -> usize
 }
 
 /// Where a search ends: the row + 1 of the name, or 0 and the cell of an empty link.
-#[derive(Drop)]
+#[derive(Clone, Copy)]
 pub struct Place {
     pub row: usize,
     pub cell: usize,

@@ -5,14 +5,14 @@ ghost use Rattle.nameck.specs.Lookups.{HasSymbol, Owned, DeclaredBy};
 use paper::{Atom, StatementOffset, TokenOffset};
 
 /// The first bearer of a label, or nobody.
-#[derive(Drop)]
+#[derive(Clone, Copy)]
 pub enum Owner {
     At(StatementOffset),
     Nobody,
 }
 
 /// A global declaration: a `$c` or a `$v` token with this offset, or nothing.
-#[derive(Drop)]
+#[derive(Clone, Copy)]
 pub enum Global {
     Constant(TokenOffset),
     Variable(TokenOffset),

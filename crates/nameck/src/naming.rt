@@ -55,7 +55,7 @@ pub fn name_label(text: &[u8], work: &mut [u32], n: usize, s: usize, names: usiz
 }
 
 /// Where a token stops, and the hash of its bytes.
-#[derive(Drop)]
+#[derive(Clone, Copy)]
 pub struct Hashed {
     pub stop: usize,
     pub hash: u64,

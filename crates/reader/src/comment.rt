@@ -13,7 +13,7 @@ use token::cursor::{Cursor, DOLLAR, KEY_COMMENT, KEY_COMMENT_END, Next, Span, is
 
 /// What a comment is: closed, with the cursor after its `$)`; closed, with the cursor at the first token that may not stand in it;
 /// or never closed.
-#[derive(Drop)]
+#[derive(Clone, Copy)]
 pub enum Comment {
     Closed(Cursor),
     Bad(Cursor),
@@ -22,7 +22,7 @@ pub enum Comment {
 
 /// What a token is outside comments: shown, with the cursor after it, or the start of a comment, with the cursor after it or
 /// what it is refused with, and its line; or no more.
-#[derive(Drop)]
+#[derive(Clone, Copy)]
 pub enum Look {
     Token(Span, Cursor),
     Past(Cursor),
@@ -31,7 +31,7 @@ pub enum Look {
 }
 
 /// What stands next outside comments: a token, with the cursor after it, a comment that is refused, with the line, or no more.
-#[derive(Drop)]
+#[derive(Clone, Copy)]
 pub enum Visible {
     Token(Span, Cursor),
     Refused(Refusal, u64),

@@ -8,7 +8,7 @@ ghost use Rattle.reader.specs.Ends.{stack_of, back_words, back_state, BackRoom, 
 use area::{END, NO_END, bucket, statement};
 
 /// The first row whose end is found, and the depth of the stack.
-#[derive(Drop)]
+#[derive(Clone, Copy)]
 pub struct Back {
     pub row: usize,
     pub depth: usize,

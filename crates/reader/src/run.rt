@@ -13,7 +13,7 @@ use paper::Refusal;
 use token::cursor::{Cursor, Next, Span, is_key};
 
 /// A run of math tokens: how many, the cursor after the last, and what stands next.
-#[derive(Drop)]
+#[derive(Clone, Copy)]
 pub struct Run {
     pub count: usize,
     pub stop: Cursor,
@@ -21,14 +21,14 @@ pub struct Run {
 }
 
 /// How far a run has come: how many tokens, and the cursor after the last.
-#[derive(Drop)]
+#[derive(Clone, Copy)]
 pub struct Stretch {
     pub count: usize,
     pub stop: Cursor,
 }
 
 /// How a run closes: at a keyword, with the cursor after it, or refused, with the line.
-#[derive(Drop)]
+#[derive(Clone, Copy)]
 pub enum Closing {
     At(Cursor),
     Refused(Refusal, u64),

@@ -9,7 +9,7 @@ use token::cursor::Cursor;
 
 /// How many statements, math tokens and items stand before the cursor, how many groups are open, and the cursor. It stands last, where
 /// it lies under no tag of `Turn` and `All`: the back end then keeps it in registers.
-#[derive(Drop)]
+#[derive(Clone, Copy)]
 pub struct State {
     pub rows: usize,
     pub maths: usize,
@@ -19,7 +19,7 @@ pub struct State {
 }
 
 /// The head of a statement: kind, first token, label length (0 for none), and the cursor after the keyword.
-#[derive(Drop)]
+#[derive(Clone, Copy)]
 pub struct Head {
     pub kind: u32,
     pub at: usize,
@@ -28,7 +28,7 @@ pub struct Head {
 }
 
 /// What reading one item gives: the state after it, a refusal and its line, or the end of the text.
-#[derive(Drop)]
+#[derive(Clone, Copy)]
 pub enum Turn {
     Next(State),
     Refused(Refusal, u64),

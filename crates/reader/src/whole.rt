@@ -13,7 +13,7 @@ use paper::{Reading, Refusal};
 use token::cursor::text_start;
 
 /// What reading all items gives: the state after the last, or a refusal and its line.
-#[derive(Drop)]
+#[derive(Clone, Copy)]
 pub enum All {
     Done(State),
     Refused(Refusal, u64),

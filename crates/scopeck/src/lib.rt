@@ -7,7 +7,7 @@ pub mod rows;
 pub mod statements;
 
 /// How many active accepted `$e` and `$d` there are, and the place reached in the diagnostics.
-#[derive(Drop)]
+#[derive(Clone, Copy)]
 pub struct Scope {
     pub es: usize,
     pub ds: usize,
@@ -15,7 +15,7 @@ pub struct Scope {
 }
 
 /// What a statement's row says: its offset, its label, and the rows of its math tokens.
-#[derive(Drop)]
+#[derive(Clone, Copy)]
 pub struct Row {
     pub at: StatementOffset,
     pub label: Atom,
@@ -24,7 +24,7 @@ pub struct Row {
 }
 
 /// The label of a statement that owns it, or nothing.
-#[derive(Drop)]
+#[derive(Clone, Copy)]
 pub enum Owner {
     Own(Atom),
     Nothing,

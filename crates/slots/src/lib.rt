@@ -9,28 +9,28 @@ pub mod mark;
 pub mod stack;
 
 /// The nested `$v` token of a name, or nothing.
-#[derive(Drop)]
+#[derive(Clone, Copy)]
 pub enum NestedSlot {
     At(TokenOffset),
     Nothing,
 }
 
 /// The `$f` of a name, by its row, or nothing.
-#[derive(Drop)]
+#[derive(Clone, Copy)]
 pub enum FloatSlot {
     At(StatementRow),
     Nothing,
 }
 
 /// The first token of a name in the `$d` in hand, or nothing.
-#[derive(Drop)]
+#[derive(Clone, Copy)]
 pub enum MarkSlot {
     At(TokenIndex),
     Nothing,
 }
 
 /// What a math token is where it stands.
-#[derive(Drop)]
+#[derive(Clone, Copy)]
 pub enum CheckedToken {
     Inactive,
     Constant(Atom),

@@ -11,6 +11,5 @@ pub mod Framing
 pub mod Search
 pub mod Front
 pub mod Fields
-mod Thin
 mod Examples
 pub mod Stubs

@@ -7,14 +7,14 @@ use crate::walk;
 use crate::walk::Framing;
 
 /// A number that is asked for, or nothing.
-#[derive(Drop)]
+#[derive(Clone, Copy)]
 pub enum Asked {
     Number(usize),
     Nothing,
 }
 
 /// A part of a record, from a place up to the record's end, or none.
-#[derive(Drop)]
+#[derive(Clone, Copy)]
 pub enum Part {
     From(usize, usize),
     NoPart,

@@ -8,7 +8,7 @@ use crate::record;
 use paper::{StatementOffset, TokenIndex};
 
 /// How many bytes are used, and how many diagnostics they hold.
-#[derive(Drop)]
+#[derive(Clone, Copy)]
 pub struct DiagState {
     pub used: usize,
     pub count: usize,

@@ -8,14 +8,14 @@ use crate::field;
 use crate::field::Asked;
 
 /// A record of a frame stream.
-#[derive(Drop)]
+#[derive(Clone, Copy)]
 pub struct FrameRef<'a> {
     pub frames: &'a [u8],
     pub at: usize,
 }
 
 /// What the four functions answer of one record.
-#[derive(Drop)]
+#[derive(Clone, Copy)]
 pub struct Facts {
     pub kind: Asked,
     pub variables: Asked,

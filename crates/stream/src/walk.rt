@@ -8,7 +8,7 @@ ghost use Rattle.stream.specs.Framing.{label_in, framing, kept};
 use paper::Found;
 
 /// A well framed record: its kind, where its label starts and stops, and where the next record starts.
-#[derive(Drop)]
+#[derive(Clone, Copy)]
 pub struct Record {
     pub kind: usize,
     pub label: usize,
@@ -17,7 +17,7 @@ pub struct Record {
 }
 
 /// What stands at a place of a frame stream.
-#[derive(Drop)]
+#[derive(Clone, Copy)]
 pub enum Framing {
     Well(Record),
     Badly,

@@ -141,7 +141,7 @@ before_same {w} {u} (all_more {x = s} {l = l} h a) x =
     (rw e (ap (λ (k : List Given). give u (view x s.at) s ∷ k) r.0), rw e r.1)
 
 -- ---- F6: after the group
-pub behind_same : {w u l : List Statement} {q : ℕ} (x y : State) → Alike q x y → All (λ s. q < s.at) l
+pub behind_same : {w u : List Statement} {q : ℕ} {l : List Statement} (x y : State) → Alike q x y → All (λ s. q < s.at) l
     → All (AgreeAll w u) l → gives w l x ≡ gives u l y
 unfolding gives
 behind_same x y k all_none all_none = refl

@@ -8,21 +8,21 @@ ghost use Rattle.token.specs.Count.{bit, weight, Weights, tally_of, bad_of, coun
 use crate::class::{class_of, table};
 
 /// The offset of the first byte that is neither white space nor printable.
-#[derive(Drop)]
+#[derive(Clone, Copy)]
 pub enum Bad {
     At(usize),
     Nowhere,
 }
 
 /// The number of tokens, and the first bad byte.
-#[derive(Drop)]
+#[derive(Clone, Copy)]
 pub struct Counted {
     pub tokens: usize,
     pub bad: Bad,
 }
 
 /// The number of tokens, and of bad bytes.
-#[derive(Drop)]
+#[derive(Clone, Copy)]
 pub struct Tally {
     pub tokens: usize,
     pub bads: usize,
@@ -70,7 +70,7 @@ pub fn weights_of(table: &[u8; 256]) -> [usize; 256]
 }
 
 /// Tokens, by where they start, and the weight of all bytes.
-#[derive(Drop)]
+#[derive(Clone, Copy)]
 pub struct Weighed {
     pub tokens: usize,
     pub sum: usize,

@@ -54,7 +54,7 @@ pub fn is_key(s: &[u8], key: [u8; 2]) -> bool
 }
 
 /// Where a token starts and stops, its line, and the least class of its bytes: 4 for a label token, 3 or 4 for a math token.
-#[derive(Drop)]
+#[derive(Clone, Copy)]
 pub struct Span {
     pub start: usize,
     pub stop: usize,
@@ -63,14 +63,14 @@ pub struct Span {
 }
 
 /// A place in a text, and its line.
-#[derive(Drop)]
+#[derive(Clone, Copy)]
 pub struct Cursor {
     pub at: usize,
     pub line: u64,
 }
 
 /// What stands next: a token, with the cursor after it, or no more.
-#[derive(Drop)]
+#[derive(Clone, Copy)]
 pub enum Next {
     Token(Span, Cursor),
     Done,

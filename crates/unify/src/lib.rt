@@ -6,14 +6,14 @@ pub mod expand;
 pub mod matching;
 
 /// How far an entry agrees: up to a place of the stack, or it differs.
-#[derive(Drop)]
+#[derive(Clone, Copy)]
 pub enum Matched {
     Upto(usize),
     Differs,
 }
 
 /// What became of words that are put on the stack: the place after them, or there is no room.
-#[derive(Drop)]
+#[derive(Clone, Copy)]
 pub enum Placed {
     Upto(usize),
     NoRoom,

@@ -1,0 +1,6 @@
+use Rattle.area.proofs.Laws.{cleared_all}
+use borrow.Author.Rules.{rules}
+use Rattle.area.proofs.clear.Goals as goal
+
+pub returns : goal.returns
+returns c = cleared_all c.clear_part.ensures

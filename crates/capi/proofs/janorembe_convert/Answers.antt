@@ -1,0 +1,6 @@
+use Rattle.capi.proofs.Promises.{changed}
+use borrow.Author.Rules.{rules}
+use Rattle.capi.proofs.janorembe_convert.Goals as goal
+
+pub returns : goal.returns
+returns c = changed c.convert-converted.ensures c.tell_converted.ensures

@@ -1,0 +1,6 @@
+use Rattle.capi.proofs.Promises.{gauged}
+use borrow.Author.Rules.{rules}
+use Rattle.capi.proofs.janorembe_measure.Goals as goal
+
+pub returns : goal.returns
+returns c = gauged c.measure-measured.ensures c.setting_of-setting.ensures c.tell_measured.ensures

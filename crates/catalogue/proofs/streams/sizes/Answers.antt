@@ -1,0 +1,6 @@
+use Rattle.catalogue.proofs.Numbers.{sizes_of}
+use borrow.Author.Rules.{rules}
+use Rattle.catalogue.proofs.streams.sizes.Goals as goal
+
+pub returns : goal.returns
+returns c = sizes_of c.fold_all.ensures

@@ -1,0 +1,6 @@
+use Rattle.checks.proofs.Ones.{clash_one}
+use borrow.Author.Rules.{rules}
+use Rattle.checks.proofs.tokens.check_clash.Goals as goal
+
+pub returns : goal.returns
+returns c = clash_one c.lookup_label-owner.ensures c.put_clash.ensures

@@ -1,0 +1,6 @@
+use Rattle.checks.proofs.Ones.{label_one}
+use borrow.Author.Rules.{rules}
+use Rattle.checks.proofs.tokens.check_label.Goals as goal
+
+pub returns : goal.returns
+returns c = label_one c.lookup_label-owner.ensures c.put_label.ensures

@@ -1,0 +1,18 @@
+use native.Mathlib.Omega.{arith}
+use lib.ListN.{length}
+use Rattle.slots.proofs.Kept.{room_kept}
+use Rattle.token.specs.Words.{Lined}
+use Rattle.token.proofs.Lines.{line_start}
+use Rattle.checks.specs.Visible.{visible_from}
+use Rattle.checks.proofs.Comments.{first_of, refused_none, none_of, left_calm}
+use Rattle.checks.proofs.OverRows.{can_token}
+use Rattle.checks.proofs.Each.{take_one, left_less}
+use Rattle.checks.proofs.OverPart.{InvNested, nested_start, nested_step, nested_end}
+use borrow.Author.Rules.{rules}
+use Rattle.checks.proofs.walks.walk_nested.Given as goal
+
+abbrev pub invariant-loop-x : goal.invariant-loop-x
+invariant-loop-x l = InvNested l.initial.work l.work l.part l.initial.diags l.diags l.n l.at l.p l.first l.from l.end l.s.0 l.c.at l.i × Lined l.part l.c
+
+abbrev pub decreases-loop-x : goal.decreases-loop-x
+decreases-loop-x l = length (visible_from l.part l.c.at)

@@ -1,0 +1,23 @@
+use native.Mathlib.Omega.{arith}
+use Prim.Native.Nat.{◌-◌}
+use Rattle.disjoint.proofs.Draws.{InvAllDrawn, all_drawn_begin, all_drawn_can, all_drawn_step, all_drawn_end}
+use borrow.Author.Rules.{rules}
+use Rattle.disjoint.proofs.draw.put_pairs.Goals as goal
+
+pub loop-k-init : goal.loop-k-init
+loop-k-init c = all_drawn_begin _ _ _ _ _ _
+
+pub of_statement-requires : goal.of_statement-requires
+of_statement-requires c = (c.requires.walk.stacked.buckets.room, omega (arith, c.requires.walk.stacked.depth), omega arith)
+
+pub put_pairs_of-a-requires : goal.put_pairs_of-a-requires
+put_pairs_of-a-requires c = all_drawn_can c.loop-k.invariant c.requires (search rules) c.of_statement.ensures
+
+pub loop-k-preserved : goal.loop-k-preserved
+loop-k-preserved c = all_drawn_step c.loop-k.invariant (search rules) c.of_statement.ensures c.put_pairs_of-a.ensures
+
+pub shape_of-buf : goal.shape_of-buf
+shape_of-buf c = c.loop-k.invariant.drew.len
+
+pub returns : goal.returns
+returns c = all_drawn_end c.loop-k.invariant (search rules)

@@ -1,0 +1,11 @@
+use native.Mathlib.Omega.{arith}
+use Prim.Native.Nat.{◌-◌}
+use Rattle.disjoint.proofs.Walks.{token_here, InvRow, row_begin, row_can, row_few, row_step, row_end}
+use borrow.Author.Rules.{rules}
+use Rattle.disjoint.proofs.tally.mark_above.Given as goal
+
+abbrev pub invariant-loop-i : goal.invariant-loop-i
+invariant-loop-i l = InvRow l.initial.work l.work l.n l.m l.line l.u.0 l.sum l.i
+
+abbrev pub decreases-loop-i : goal.decreases-loop-i
+decreases-loop-i l = l.count - l.i

@@ -1,0 +1,11 @@
+use Prim.Native.Nat.{◌-◌}
+use mathlib.Core.Path.{◌∙◌}
+use Rattle.forms.proofs.Fragments.{InvFragments, fragments_begin, fragments_can, fragments_step, fragments_end}
+use borrow.Author.Rules.{rules}
+use Rattle.forms.proofs.expression.put_fragments.Given as goal
+
+abbrev pub invariant-loop-i : goal.invariant-loop-i
+invariant-loop-i l = InvFragments l.work l.initial.buf l.buf l.n l.row.0 l.pool l.at l.p l.i
+
+abbrev pub decreases-loop-i : goal.decreases-loop-i
+decreases-loop-i l = l.count - l.i

@@ -1,0 +1,6 @@
+use Rattle.forms.proofs.OneName.{name_put}
+use borrow.Author.Rules.{rules}
+use Rattle.forms.proofs.names.put_name.Goals as goal
+
+pub returns : goal.returns
+returns c = name_put c.requires.0 c.name_word-start.ensures.0 c.name_word-stop.ensures.0 c.put_string.ensures

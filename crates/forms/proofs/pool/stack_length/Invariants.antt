@@ -1,0 +1,11 @@
+use native.Mathlib.Omega.{arith}
+use Prim.Native.Nat.{◌-◌}
+use Rattle.forms.proofs.Essentials.{stack_place, InvSize, size_begin, size_can, size_step, size_end}
+use borrow.Author.Rules.{rules}
+use Rattle.forms.proofs.pool.stack_length.Given as goal
+
+abbrev pub invariant-loop-k : goal.invariant-loop-k
+invariant-loop-k l = InvSize l.work l.n l.es l.sum l.k
+
+abbrev pub decreases-loop-k : goal.decreases-loop-k
+decreases-loop-k l = l.es - l.k

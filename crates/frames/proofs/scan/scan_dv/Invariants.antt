@@ -1,0 +1,13 @@
+use Prim.Native.Nat.{◌-◌}
+use native.Mathlib.Omega.{arith}
+use Rattle.area.proofs.Laws.{word_at}
+use Rattle.sight.proofs.Stacks.{all_can, all_end, all_bounds}
+use Rattle.frames.proofs.Outer.{deep_stack, can_lower, Onward, onward_start, onward_step}
+use borrow.Author.Rules.{rules}
+use Rattle.frames.proofs.scan.scan_dv.Given as goal
+
+abbrev pub invariant-loop-k : goal.invariant-loop-k
+invariant-loop-k l = Onward l.initial.work l.work l.n l.initial.v l.v 11 l.ds 0 l.outer l.k
+
+abbrev pub decreases-loop-k : goal.decreases-loop-k
+decreases-loop-k l = l.ds - l.k

@@ -1,0 +1,13 @@
+use Prim.Native.Nat.{◌+◌, ◌-◌}
+use native.Mathlib.Omega.{arith}
+use lib.ListN.{length}
+use Rattle.layout.proofs.Streams.{stood}
+use Rattle.layout.proofs.Renewing.{Putting, put_start, put_fits, put_next, put_end, from_slice, fits_renews}
+use borrow.Author.Rules.{rules}
+use Rattle.layout.proofs.convert.put_all.Given as goal
+
+abbrev pub invariant-loop-at : goal.invariant-loop-at
+invariant-loop-at l = Putting l.stream l.initial.out l.out l.at
+
+abbrev pub decreases-loop-at : goal.decreases-loop-at
+decreases-loop-at l = length l.stream - l.at

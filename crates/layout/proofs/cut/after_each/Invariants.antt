@@ -1,0 +1,12 @@
+use native.Mathlib.Omega.{arith}
+use Rattle.paper.specs.Layout.{a_hypothesis}
+use Rattle.layout.specs.Cuts.{comes, falls}
+use Rattle.layout.proofs.Cuts.{came, none, Steps, steps_start, steps_next, steps_short, steps_end}
+use borrow.Author.Rules.{rules}
+use Rattle.layout.proofs.cut.after_each.Given as goal
+
+abbrev pub invariant-loop-left : goal.invariant-loop-left
+invariant-loop-left l = Steps a_hypothesis l.bytes l.from l.end l.count l.at l.left
+
+abbrev pub decreases-loop-left : goal.decreases-loop-left
+decreases-loop-left l = l.left

@@ -1,0 +1,14 @@
+use mathlib.Core.Path.{◌≡◌, sym, ◌∙◌}
+use Prim.Native.Nat.{◌-◌, ◌<◌, ◌≤◌}
+use native.Mathlib.Omega.{arith}
+use lib.ListN.{length}
+use Rattle.nameck.specs.Links.{hash}
+use Rattle.nameck.proofs.Hash.{hash_from, hash_whole, hash_step, hash_end}
+use borrow.Author.Rules.{rules}
+use Rattle.nameck.proofs.intern.hash_of.Given as goal
+
+abbrev pub invariant-loop-k : goal.invariant-loop-k
+invariant-loop-k l = (l.k ≤ length l.s) × (l.h < 4294967296) × (hash_from l.h l.s l.k ≡ hash l.s)
+
+abbrev pub decreases-loop-k : goal.decreases-loop-k
+decreases-loop-k l = length l.s - l.k

@@ -1,0 +1,11 @@
+use Rattle.nameck.specs.Links.{link}
+use borrow.Author.Rules.{rules}
+use Rattle.nameck.proofs.intern.link_of.Goals as goal
+
+pub returns-then-right : goal.returns-then-right
+unfolding link
+returns-then-right c = rw c.if-right.true c.symbol.ensures
+
+pub returns : goal.returns
+unfolding link
+returns c = rw c.if-right.false c.name.ensures

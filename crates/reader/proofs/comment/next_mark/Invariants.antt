@@ -1,0 +1,15 @@
+use mathlib.Core.Path.{◌≡◌, sym, ◌∙◌}
+use mathlib.Core.Bool.{false}
+use Prim.Native.Nat.{ℕ, ◌-◌, ◌<◌, ◌≤◌}
+use native.Mathlib.Omega.{arith}
+use lib.ListN.{length, drop}
+use Rattle.reader.specs.Dollar.{mark_first}
+use Rattle.reader.proofs.Marks.{mark_end, mark_here, mark_next}
+use borrow.Author.Rules.{rules}
+use Rattle.reader.proofs.comment.next_mark.Given as goal
+
+abbrev pub invariant-loop-at : goal.invariant-loop-at
+invariant-loop-at l = (l.at ≤ l.i) × (l.i ≤ length l.text) × ((j : ℕ) → l.at ≤ j → j < l.i → mark_first (drop j l.text) ≡ false)
+
+abbrev pub decreases-loop-at : goal.decreases-loop-at
+decreases-loop-at l = length l.text - l.i

@@ -1,0 +1,13 @@
+use mathlib.Core.Path.{◌≡◌}
+use Prim.Native.Nat.{suc, ◌-◌}
+use native.Mathlib.Omega.{arith}
+use Rattle.reader.specs.Ends.{Backward}
+use Rattle.reader.proofs.Backs.{back_start, back_room, back_step, back_end}
+use borrow.Author.Rules.{rules}
+use Rattle.reader.proofs.end.set_ends.Given as goal
+
+abbrev pub invariant-loop-j : goal.invariant-loop-j
+invariant-loop-j l = Backward l.initial.work l.work l.n l.rows l.items l.j l.row l.depth
+
+abbrev pub decreases-loop-j : goal.decreases-loop-j
+decreases-loop-j l = l.j

@@ -1,0 +1,6 @@
+use mathlib.Core.Path.{refl}
+use borrow.Author.Rules.{rules}
+use Rattle.reader.proofs.item.open_group.Goals as goal
+
+pub returns : goal.returns
+returns c = (rw c.bucket-cell.ensures, refl)

@@ -1,0 +1,24 @@
+use mathlib.Core.Path.{sym, ◌∙◌}
+use Rattle.paper.specs.Tokens.{key}
+use borrow.Author.Rules.{rules}
+use Rattle.reader.proofs.kind.label_code.Goals as goal
+
+pub returns-then-is_key : goal.returns-then-is_key
+unfolding key
+returns-then-is_key c = rw (sym c.is_key.ensures ∙ c.if-is_key.true)
+
+pub returns-then-is_key-2 : goal.returns-then-is_key-2
+unfolding key
+returns-then-is_key-2 c = rw (sym c.is_key.ensures ∙ c.if-is_key.false, sym c.is_key-2.ensures ∙ c.if-is_key-2.true)
+
+pub returns-then-is_key-3 : goal.returns-then-is_key-3
+unfolding key
+returns-then-is_key-3 c = rw (sym c.is_key.ensures ∙ c.if-is_key.false, sym c.is_key-2.ensures ∙ c.if-is_key-2.false, sym c.is_key-3.ensures ∙ c.if-is_key-3.true)
+
+pub returns-then-is_key-4 : goal.returns-then-is_key-4
+unfolding key
+returns-then-is_key-4 c = rw (sym c.is_key.ensures ∙ c.if-is_key.false, sym c.is_key-2.ensures ∙ c.if-is_key-2.false, sym c.is_key-3.ensures ∙ c.if-is_key-3.false, sym c.is_key-4.ensures ∙ c.if-is_key-4.true)
+
+pub returns : goal.returns
+unfolding key
+returns c = rw (sym c.is_key.ensures ∙ c.if-is_key.false, sym c.is_key-2.ensures ∙ c.if-is_key-2.false, sym c.is_key-3.ensures ∙ c.if-is_key-3.false, sym c.is_key-4.ensures ∙ c.if-is_key-4.false)

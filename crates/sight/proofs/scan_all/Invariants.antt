@@ -1,0 +1,12 @@
+use Prim.Native.Nat.{◌-◌}
+use native.Mathlib.Omega.{arith}
+use Rattle.area.proofs.Laws.{word_at}
+use Rattle.sight.proofs.Stacks.{InvAll, all_start, all_can, all_step, all_end, all_bounds}
+use borrow.Author.Rules.{rules}
+use Rattle.sight.proofs.scan_all.Given as goal
+
+abbrev pub invariant-loop-k : goal.invariant-loop-k
+invariant-loop-k l = InvAll l.initial.work l.work l.n l.vars l.v l.column l.depth l.from.0 l.k
+
+abbrev pub decreases-loop-k : goal.decreases-loop-k
+decreases-loop-k l = l.depth - l.k

@@ -1,0 +1,5 @@
+use borrow.Author.Rules.{rules}
+use Rattle.slots.proofs.cells.put_statement.Goals as goal
+
+pub returns : goal.returns
+returns c = rw c.statement.ensures

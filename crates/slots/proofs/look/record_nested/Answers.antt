@@ -1,0 +1,7 @@
+use Rattle.slots.specs.Slots.{with_nested}
+use borrow.Author.Rules.{rules}
+use Rattle.slots.proofs.look.record_nested.Goals as goal
+
+pub returns : goal.returns
+unfolding with_nested
+returns c = rw (c.put_symbol-2.ensures, c.put_symbol.ensures)

@@ -1,0 +1,12 @@
+use Prim.Native.Nat.{◌-◌, ◌+◌}
+use native.Mathlib.Omega.{arith}
+use Rattle.slots.proofs.Kept.{room_kept}
+use Rattle.slots.proofs.Marks.{InvForget, forget_start, forget_step, forget_end}
+use borrow.Author.Rules.{rules}
+use Rattle.slots.proofs.mark.forget_dv.Given as goal
+
+abbrev pub invariant-loop-i : goal.invariant-loop-i
+invariant-loop-i l = InvForget l.initial.work l.work l.n l.first l.count l.i
+
+abbrev pub decreases-loop-i : goal.decreases-loop-i
+decreases-loop-i l = l.count - l.i

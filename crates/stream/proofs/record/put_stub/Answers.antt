@@ -1,0 +1,16 @@
+use native.Mathlib.Omega.{arith}
+use Rattle.stream.proofs.Wrote.{wrote_then}
+use Rattle.stream.proofs.Records.{wrote_stub}
+use borrow.Author.Rules.{rules}
+use Rattle.stream.proofs.record.put_stub.Goals as goal
+
+pub returns : goal.returns
+returns c = (
+  omega arith,
+  wrote_stub _ _ _ _ _ (omega arith) c.put_u32-a.ensures.1
+      (wrote_then c.put_u16-b.ensures.1
+      (wrote_then c.put_u32-c.ensures.1
+      (wrote_then c.put_u32-d.ensures.1
+      (wrote_then c.put_string-e.ensures.1
+      (wrote_then c.put_string-f.ensures.1 c.put_string.ensures.1))))),
+)

@@ -1,0 +1,14 @@
+use mathlib.Core.Path.{◌≡◌, sym, ◌∙◌}
+use Prim.Native.Nat.{◌-◌}
+use lib.ListN.{length}
+use Rattle.token.specs.Words.{span_from}
+use Rattle.token.proofs.Classes.{is_white, not_white}
+use Rattle.token.proofs.Words.{span_end, span_stop, span_step}
+use borrow.Author.Rules.{rules}
+use Rattle.token.proofs.cursor.Cursor.to_white.Given as goal
+
+abbrev pub invariant-loop-at : goal.invariant-loop-at
+invariant-loop-at l = span_from l.text (record { at = l.start; line = l.line }) l.at l.least ≡ span_from l.text (record { at = l.start; line = l.line }) l.initial.at l.initial.least
+
+abbrev pub decreases-loop-at : goal.decreases-loop-at
+decreases-loop-at l = length l.text - l.at

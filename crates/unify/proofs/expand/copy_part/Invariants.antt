@@ -1,0 +1,11 @@
+use Prim.Native.Nat.{◌-◌}
+use native.Mathlib.Omega.{arith}
+use Rattle.unify.proofs.Pushes.{Copying, copy_start, copy_end, copy_flag, copy_more, copy_full}
+use borrow.Author.Rules.{rules}
+use Rattle.unify.proofs.expand.copy_part.Given as goal
+
+abbrev pub invariant-loop-i : goal.invariant-loop-i
+invariant-loop-i l = Copying l.initial.stack l.stack l.top l.s l.p l.i l.q
+
+abbrev pub decreases-loop-i : goal.decreases-loop-i
+decreases-loop-i l = l.top - l.i

@@ -1,0 +1,15 @@
+use Prim.Native.Nat.{◌-◌, ◌≤◌}
+use native.Mathlib.Omega.{arith}
+use lib.ListN.{length, take}
+use Rattle.unify.specs.Pushes.{Pushes}
+use Rattle.unify.specs.declared.Placed.TheVariants.{Upto}
+use Rattle.unify.proofs.Pushes.{push_none}
+use Rattle.unify.proofs.Moves.{tokens_next, tokens_full, tokens_done}
+use borrow.Author.Rules.{rules}
+use Rattle.unify.proofs.expand.put_tokens.Given as goal
+
+abbrev pub invariant-loop-i : goal.invariant-loop-i
+invariant-loop-i l = (l.i ≤ length l.tokens) × Pushes l.initial.stack l.stack l.p (Upto l.q) (take l.i l.tokens)
+
+abbrev pub decreases-loop-i : goal.decreases-loop-i
+decreases-loop-i l = length l.tokens - l.i
