@@ -4,15 +4,7 @@ use lib.ListN.{get_or}
 use Rattle.area.proofs.Laws.{word_at}
 use Rattle.sight.proofs.Walks.{InvScan, Step, scan_bounds, scan_within, scan_start, scan_step, scan_end}
 use borrow.Author.Rules.{rules}
-use Rattle.sight.proofs.scan.Goals.{In-loop-i}
 use Rattle.sight.proofs.scan.Goals as goal
-
--- own --
-inside : (c : In-loop-i) → Step c.before.loop.work c.before.before.before.before.before.before.before.before.before.args.n c.before.loop.v (get_or c.before.before.before.before.before.before.before.before.before.args.work.now c.before.before.before.before.before.before.statement.result 0 + c.before.loop.i)
-inside c = scan_within c.loop-i.invariant c.requires (word_at c.args.work.now c.statement.ensures) (omega (arith, word_at c.args.work.now c.statement-2.ensures))
-
--- end own --
--- end own --
 
 pub statement-requires : goal.statement-requires
 statement-requires c = let b = scan_bounds c.requires in omega arith
@@ -42,19 +34,19 @@ pub loop-i-init : goal.loop-i-init
 loop-i-init c = scan_start _ _ _ _ _
 
 pub overflow_add-first : goal.overflow_add-first
-overflow_add-first c = let b = inside c in omega arith
+overflow_add-first c = let b = (scan_within c.loop-i.invariant c.requires (word_at c.args.work.now c.statement.ensures) (omega (arith, word_at c.args.work.now c.statement-2.ensures))) in omega arith
 
 pub math-requires : goal.math-requires
-math-requires c = let b = inside c in let d = scan_bounds c.requires in omega arith
+math-requires c = let b = (scan_within c.loop-i.invariant c.requires (word_at c.args.work.now c.statement.ensures) (omega (arith, word_at c.args.work.now c.statement-2.ensures))) in let d = scan_bounds c.requires in omega arith
 
 pub offset_bounds-work-math : goal.offset_bounds-work-math
-offset_bounds-work-math c = let b = inside c.before in omega arith
+offset_bounds-work-math c = let b = (scan_within c.loop-i.invariant c.requires (word_at c.args.work.now c.statement.ensures) (omega (arith, word_at c.args.work.now c.statement-2.ensures))) in omega arith
 
 pub bounds-work-math : goal.bounds-work-math
-bounds-work-math c = let b = inside c.before.before in omega arith
+bounds-work-math c = let b = (scan_within c.loop-i.invariant c.requires (word_at c.args.work.now c.statement.ensures) (omega (arith, word_at c.args.work.now c.statement-2.ensures))) in omega arith
 
 pub see-v-requires : goal.see-v-requires
-see-v-requires c = let b = inside c.before.before.before in let d = scan_bounds c.requires in omega (arith, word_at c.loop-i.work c.math.ensures)
+see-v-requires c = let b = (scan_within c.loop-i.invariant c.requires (word_at c.args.work.now c.statement.ensures) (omega (arith, word_at c.args.work.now c.statement-2.ensures))) in let d = scan_bounds c.requires in omega (arith, word_at c.loop-i.work c.math.ensures)
 
 pub loop-i-preserved : goal.loop-i-preserved
 loop-i-preserved c = scan_step c.loop-i.invariant c.requires (word_at c.args.work.now c.statement.ensures) (omega (arith, word_at c.args.work.now c.statement-2.ensures)) (word_at c.loop-i.work c.math.ensures) c.see-v.ensures.0 c.see-v.ensures.1

@@ -8,19 +8,7 @@ use Rattle.checks.proofs.Comments.{first_of, refused_none, none_of, left_calm}
 use Rattle.checks.proofs.Each.{Left, left_start, take_one, left_less, left_none}
 use Rattle.checks.proofs.OverRows.{can_token, InvEap, eap_start, eap_step, eap_end}
 use borrow.Author.Rules.{rules}
-use Rattle.checks.proofs.walks.walk_eap.Goals.{In-Token}
 use Rattle.checks.proofs.walks.walk_eap.Goals as goal
-
--- own --
--- the token that was met
-took : (c : In-Token) → First c.before.before.before.before.before.before.before.before.before.before.args.part.now c.before.before.before.before.before.loop.c.at c.before.d.given.0.0.start c.before.d.given.0.1.0.at
-took c = first_of (rw c.in-Token.is at c.next_visible.ensures)
-
-lined : (c : In-Token) → Lined c.before.before.before.before.before.before.before.before.before.before.args.part.now c.before.d.given.0.1.0
-lined c = (rw c.in-Token.is at c.next_visible.ensures).lined
-
--- end own --
--- end own --
 
 pub loop-d-init : goal.loop-d-init
 loop-d-init c = (eap_start, left_start _, line_start _)
@@ -29,25 +17,25 @@ pub next_visible-requires : goal.next_visible-requires
 next_visible-requires c = (search rules, c.loop-d.invariant.2)
 
 pub overflow_add-first : goal.overflow_add-first
-overflow_add-first c = let x = take_one c.loop-d.invariant.1 (took c) in omega (arith, x.inside, c.requires.0.atoms.rows, c.requires.0.room.small)
+overflow_add-first c = let x = take_one c.loop-d.invariant.1 (first_of (rw c.in-Token.is at c.next_visible.ensures)) in omega (arith, x.inside, c.requires.0.atoms.rows, c.requires.0.room.small)
 
 pub of_math-requires : goal.of_math-requires
-of_math-requires c = let x = take_one c.loop-d.invariant.1 (took c) in (c.requires.0.room, omega (arith, x.inside, c.requires.0.atoms.rows))
+of_math-requires c = let x = take_one c.loop-d.invariant.1 (first_of (rw c.in-Token.is at c.next_visible.ensures)) in (c.requires.0.room, omega (arith, x.inside, c.requires.0.atoms.rows))
 
 pub overflow_cast-i : goal.overflow_cast-i
-overflow_cast-i c = let x = take_one c.loop-d.invariant.1 (took c.before.before) in omega (arith, x.inside, c.requires.0.atoms.rows, c.requires.0.room.small)
+overflow_cast-i c = let x = take_one c.loop-d.invariant.1 (first_of (rw c.in-Token.is at c.next_visible.ensures)) in omega (arith, x.inside, c.requires.0.atoms.rows, c.requires.0.room.small)
 
 pub check_eap_token-p-requires : goal.check_eap_token-p-requires
-check_eap_token-p-requires c = let x = take_one c.loop-d.invariant.1 (took c.before.before) in (can_token c.requires.0 (kept_none _ 12 12 2 7 _) (omega (arith, c.loop-d.invariant.0.few)) x.inside c.of_math.ensures, rw c.of_math.ensures (c.requires.1 c.loop-d.i x.inside))
+check_eap_token-p-requires c = let x = take_one c.loop-d.invariant.1 (first_of (rw c.in-Token.is at c.next_visible.ensures)) in (can_token c.requires.0 (kept_none _ 12 12 2 7 _) (omega (arith, c.loop-d.invariant.0.few)) x.inside c.of_math.ensures, rw c.of_math.ensures (c.requires.1 c.loop-d.i x.inside))
 
 pub overflow_add-i : goal.overflow_add-i
-overflow_add-i c = let x = take_one c.loop-d.invariant.1 (took c.before.before.before.before.before) in omega (arith, x.inside, c.requires.0.atoms.rows, c.requires.0.room.small)
+overflow_add-i c = let x = take_one c.loop-d.invariant.1 (first_of (rw c.in-Token.is at c.next_visible.ensures)) in omega (arith, x.inside, c.requires.0.atoms.rows, c.requires.0.room.small)
 
 pub loop-d-smaller : goal.loop-d-smaller
-loop-d-smaller c = left_less (took c.before.before.before.before.before)
+loop-d-smaller c = left_less (first_of (rw c.in-Token.is at c.next_visible.ensures))
 
 pub loop-d-preserved : goal.loop-d-preserved
-loop-d-preserved c = let x = take_one c.loop-d.invariant.1 (took c.before.before.before.before.before) in (eap_step x.inside c.of_math.ensures c.check_eap_token-p.ensures c.check_eap_token-p.auto.diags c.loop-d.invariant.0, x.left, lined c.before.before.before.before.before)
+loop-d-preserved c = let x = take_one c.loop-d.invariant.1 (first_of (rw c.in-Token.is at c.next_visible.ensures)) in (eap_step x.inside c.of_math.ensures c.check_eap_token-p.ensures c.check_eap_token-p.auto.diags c.loop-d.invariant.0, x.left, ((rw c.in-Token.is at c.next_visible.ensures).lined))
 
 pub shape_of-diags-in-Refused : goal.shape_of-diags-in-Refused
 shape_of-diags-in-Refused c = c.loop-d.invariant.0.len
