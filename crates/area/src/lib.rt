@@ -10,6 +10,8 @@
 // | 15      | math      | t-th math token           | its offset after reading, its atom after naming             |
 //
 // A statement has three tokens or more, so the four columns of the first block hold a row of 12 words for each.
+#![tactic(auto)]
+
 ghost use Rattle.std.specs.Prelude.{◌+◌, ◌*◌, ◌<◌, ◌≤◌, ◌≡◌, length, replicate};
 ghost use Rattle.area.specs.Cells.{statement_cell, name_cell, bucket_cell, symbol_cell, math_cell, Cleared};
 

@@ -1,4 +1,4 @@
--- What measure, writer, look_up and converter promise to a caller in another language, for all inputs: the number that comes back,
+-- What measure, writer, look-up and converter promise to a caller in another language, for all inputs: the number that comes back,
 -- and every lent buffer at exit. `a'` is `answer` at exit, and `p'` is `place`; the other names are those of `catalogue`.
 use Rattle.std.specs.Prelude.{◌≡◌, List, [], ◌∷◌, ℕ, eqb, length}
 use Rattle.paper.specs.Base.{choose}

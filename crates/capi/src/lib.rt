@@ -1,5 +1,7 @@
 // Measure, writer, look-up and converter for programs in other languages: document 01's numbers in place of enums.
 // `include/janorembe.h` declares them; what they promise is in `specs/Promise.antt`. Nothing is asked of a caller.
+#![tactic(auto)]
+
 ghost use Rattle.capi.specs.Promise.{Gauged, Written, Looked, Changed};
 
 use crate::numbers::{

@@ -1,4 +1,4 @@
--- What measure, writer and look_up promise, for all inputs.
+-- What measure, writer and look-up promise, for all inputs.
 -- `c` is the setting, `t` the text; `w`, `f` and `d` are work area, frame and diagnostics buffer at entry, `w'`, `f'` and `d'` at exit.
 use Rattle.std.specs.Prelude.{◌≡◌, List, ℕ, length}
 use Rattle.paper.specs.Answer.{measure, answer, frames_exit, diags_exit, work_exit}

@@ -1,5 +1,7 @@
 // The operations that the firm calls: measure, writer, and look-up by label. For any bytes and any lent buffers; nothing is asked.
 // What they promise is said over the definitions of `paper`, in `specs/Promise.antt`.
+#![tactic(auto)]
+
 ghost use Rattle.layout.specs.Renewal.{Converts};
 ghost use Rattle.catalogue.specs.Promise.{Measures, Writes, Looks};
 

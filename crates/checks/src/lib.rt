@@ -1,5 +1,7 @@
 // The checks of one statement's tokens: what each token gets, and the walks over the tokens of each kind of statement.
 // Every diagnostic goes through `stream::record::put_diag`; what was found decides which.
+#![tactic(auto)]
+
 use paper::{Atom, StatementOffset, TokenOffset};
 
 pub mod put;

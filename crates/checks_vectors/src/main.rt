@@ -1,6 +1,8 @@
 // Runs reader, names and checks over recorded texts and writes their diagnostics streams. Standard input has the texts one after
 // the other: u16 length, and the bytes. For each the stream is written as u16 length and bytes, or 65535 if the text is
 // refused. The work area is not cleared in between. `make.py` wrote them, and `stdout`.
+#![tactic(auto)]
+
 ghost use Rattle.std.specs.Prelude.{◌<◌, ◌≤◌, length};
 ghost use Rattle.fold.specs.Start.{Read};
 ghost use Rattle.checks_vectors.specs.Diagnosed.{Diagnosed};

@@ -2,6 +2,8 @@
 // the other: u32 length, and the bytes. For each the stream is written as u32 length and bytes; 4294967295 if the text is not
 // read; 4294967294 and the u32 offset of the assertion if a frame has over 4,095 variables. Diagnostics are measured only.
 // The work area is not cleared in between. `make.py` wrote the texts, and `stdout`; `tools/many-variables` runs the longest.
+#![tactic(auto)]
+
 ghost use Rattle.std.specs.Prelude.{◌≡◌, ◌<◌, ◌≤◌, length};
 ghost use Rattle.fold.specs.Start.{Read};
 ghost use Rattle.frames_vectors.specs.Framed.{Framed};

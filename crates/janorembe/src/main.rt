@@ -1,5 +1,7 @@
 // The program: a text of up to 8,192 bytes and 1,023 tokens on standard input. It writes the frames, with mandatory variables
 // only, then the diagnostics, to standard output, or nothing if the text is refused or longer.
+#![tactic(auto)]
+
 use paper::{Answer, Measured, Setting};
 
 const MOST_BYTES: usize = 8192;

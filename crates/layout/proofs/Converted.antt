@@ -1,13 +1,13 @@
 -- What is converted has the same content, has no kind 1 left and is as long; converting twice is converting once.
 -- Record by record, and then for the records of a stream one after the other.
 use mathlib.Core.Path.{◌≡◌, refl, sym, ap, ◌∙◌}
-use mathlib.Core.Bool.{true, false}
+use mathlib.Core.Bool.{true}
 use mathlib.Core.List.{List, [], ◌∷◌, ◌++◌, map}
 use mathlib.Core.Option.{none}
-use Prim.Native.Nat.{ℕ, ◌+◌, ◌-◌, ◌<◌, ◌≤◌}
+use Prim.Native.Nat.{ℕ, ◌+◌, ◌≤◌}
 use native.Mathlib.Omega.{arith}
 use lib.Dec.{eqb}
-use lib.ListN.{length, get_or, take, drop, length-append}
+use lib.ListN.{length, take, drop, length-append}
 use lib.Seq.{take-append_seam, drop-append_seam, take_at, drop_at, drop-drop, get_or-drop, length-take-le}
 use borrow.Author.Tests.{eq-eqb, eqb-true, le-ltb}
 use Rattle.paper.specs.Base.{gather}
@@ -18,7 +18,7 @@ use Rattle.paper.specs.Convert.{first_unfit, renewed, renewal}
 use Rattle.paper.proofs.Tests.{split, eqb_ne}
 use Rattle.paper.proofs.Alls.{All, all_none, all_more, all_map}
 use Rattle.layout.specs.Renewal.{AllFit}
-use Rattle.layout.specs.Converted.{NoStub, Converting, Unchanged, Conversion, OneConversion}
+use Rattle.layout.specs.Converted.{Converting, Unchanged, OneConversion}
 use Rattle.layout.proofs.Local.{u32_front}
 use Rattle.layout.proofs.Stubs.{stubbed_plain}
 use Rattle.layout.proofs.Streams.{records_skip, records_cons, records_whole, Sized, fits_sized}

@@ -1,6 +1,6 @@
 -- The laws of parts with places: the bytes up to a place, one part, one part and then others, so many times the same.
 -- For the functions that walk over a record.
-use mathlib.Core.Path.{◌≡◌, refl, sym, ap, ◌∙◌}
+use mathlib.Core.Path.{◌≡◌, refl, ap, ◌∙◌}
 use mathlib.Core.List.{List, [], ◌∷◌, ◌++◌}
 use Prim.Native.Nat.{ℕ, zero, suc, ◌+◌, ◌-◌, ◌*◌, ◌<◌, ◌≤◌}
 use native.Mathlib.Nat.{le_refl, not-suc-le-zero}

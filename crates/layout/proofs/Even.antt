@@ -1,16 +1,16 @@
 -- Every frame that statements give is even: its kind is an assertion's, its rows are V by V, and M is at most V.
 -- So it is regular, whole or restricted, where it has at most 4,095 variables and its record is short.
-use mathlib.Core.Path.{◌≡◌, refl, sym, ap, ◌∙◌}
+use mathlib.Core.Path.{◌≡◌, refl, sym, ◌∙◌}
 use mathlib.Core.Bool.{Bool, true, false}
-use mathlib.Core.List.{List, [], ◌∷◌, ◌++◌, map}
-use Prim.Native.Nat.{ℕ, zero, suc, ◌+◌, ◌*◌, ◌/◌, ◌<◌, ◌≤◌}
+use mathlib.Core.List.{List, [], ◌∷◌, map}
+use Prim.Native.Nat.{ℕ, zero, suc, ◌+◌, ◌*◌, ◌/◌, ◌≤◌}
 use native.Mathlib.Nat.{zero-mul, suc-mul}
 use native.Mathlib.Omega.{arith}
 use lib.Dec.{eqb}
-use lib.ListN.{length, take, drop, length-append, length-map, length-take}
+use lib.ListN.{length, take, length-append, length-map}
 use lib.Seq.{length-take-le}
 use borrow.Author.Tests.{ltb-false}
-use Rattle.paper.specs.Base.{or, gather, table}
+use Rattle.paper.specs.Base.{or, gather}
 use Rattle.paper.specs.Statements.{Kind, $c, $v, $d, $f, $e, $a, $p, Statement, outermost}
 use Rattle.paper.specs.State.{State, view, plus, Formula}
 use Rattle.paper.specs.Checks.{Diag, check_label, check_float, check_expression, check_disjoint}
@@ -18,7 +18,7 @@ use Rattle.paper.specs.Variables.{sights, mandatory}
 use Rattle.paper.specs.Pairs.{in_order, apart, row, rows}
 use Rattle.paper.specs.Frames.{Full, Frame, stub, full, frame_of, restricted, frame_as}
 use Rattle.paper.specs.Give.{Given, accept, unless, give_c, give_v, give_d, give_f, give_e, give_assertion, give_by, give, gives}
-use Rattle.paper.specs.Records.{row_bytes, frame_record}
+use Rattle.paper.specs.Records.{row_bytes}
 use Rattle.paper.specs.Answer.{crowded}
 use Rattle.paper.specs.declared.Setting.{Setting}
 use Rattle.paper.specs.declared.Setting.TheVariants as setting

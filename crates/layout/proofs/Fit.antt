@@ -3,19 +3,17 @@
 use mathlib.Core.Path.{◌≡◌, refl, sym, ap, ◌∙◌}
 use mathlib.Core.Bool.{Bool, true, false}
 use mathlib.Core.List.{List, [], ◌∷◌, ◌++◌}
-use mathlib.Core.Option.{Option, none, some}
 use Prim.Native.Nat.{ℕ, ◌+◌, ◌-◌, ◌<◌, ◌≤◌}
 use native.Mathlib.Omega.{arith}
-use lib.Dec.{eqb, ltb}
+use lib.Dec.{eqb}
 use lib.ListN.{length, get_or, take, drop, length-take, length-drop}
 use lib.Seq.{get_or-drop, get_or-take}
 use borrow.Author.Tests.{lt-ltb, le-ltb, eq-eqb, ne_eqb}
-use Rattle.paper.specs.Base.{choose, or}
+use Rattle.paper.specs.Base.{or}
 use Rattle.paper.specs.Lookup.{u16_at, u32_at}
-use Rattle.paper.specs.Layout.{Cut, short, cut, with_parts, then, a_string, a_stub, finished, Shape, float_head, float_shape, label_part, names_part, hypotheses_part, back_parts, with_back, with_hyps, with_names, assertion_shape, shape_of, record_shape, is_some, fits}
+use Rattle.paper.specs.Layout.{Cut, short, cut, with_parts, then, a_string, a_stub, finished, float_head, float_shape, label_part, names_part, hypotheses_part, back_parts, with_back, with_hyps, with_names, assertion_shape, shape_of, record_shape, is_some, fits}
 use Rattle.paper.proofs.Tests.{split}
-use Rattle.layout.specs.Cuts.{Within, span, Came, Cuts, float_by, assertion_tail, assertion_parts, payload_parts, record_from, fitting}
-use Rattle.layout.specs.declared.cut.Reached.{Reached}
+use Rattle.layout.specs.Cuts.{Within, span, Came, assertion_tail, assertion_parts, payload_parts, record_from, fitting}
 use Rattle.layout.specs.declared.cut.Reached.TheVariants.{Upto, Short}
 use Rattle.layout.proofs.Cuts.{span_drop, span_get, span_u32, span_length, span_part}
 

@@ -1,20 +1,18 @@
 -- Hypotheses and stub strings with places: what follows a tag, a tag and what follows it, a count and so many of them.
 -- For the functions that walk over an assertion's hypotheses and over a kind 1 record.
-use mathlib.Core.Path.{◌≡◌, sym, ap, ◌∙◌}
+use mathlib.Core.Path.{◌≡◌, ◌∙◌}
 use mathlib.Core.Bool.{true, false}
 use mathlib.Core.List.{List, [], ◌∷◌}
 use Prim.Native.Nat.{ℕ, ◌+◌, ◌-◌, ◌*◌, ◌<◌, ◌≤◌}
 use native.Mathlib.Omega.{arith}
-use lib.Dec.{eqb}
 use lib.ListN.{length, take, drop}
 use lib.Seq.{take-add, take-take, drop_at, length-take-le}
 use borrow.Author.Tests.{ne_eqb, lt-ltb, le-ltb}
 use Rattle.paper.specs.Lookup.{u16_at, u32_at, stub_string}
-use Rattle.paper.specs.Layout.{lowered, Cut, short, cut, part, then, whole, times, counted, a_string, unstubbed, a_stub, hypothesis_tail, a_hypothesis, hypotheses_part}
-use Rattle.layout.specs.Cuts.{Within, span, Came, Cuts, comes, falls}
+use Rattle.paper.specs.Layout.{lowered, short, cut, part, then, whole, times, counted, a_string, unstubbed, a_stub, hypothesis_tail, a_hypothesis, hypotheses_part}
+use Rattle.layout.specs.Cuts.{Within, span, Came, Cuts}
 use Rattle.layout.specs.declared.cut.Reached.{Reached}
-use Rattle.layout.specs.declared.cut.Reached.TheVariants.{Upto, Short}
-use Rattle.layout.proofs.Cuts.{span_drop, span_u16, span_u32, span_length, span_part, part_short, part_came, counted_short, onward, stopped, cuts_whole}
+use Rattle.layout.proofs.Cuts.{span_drop, span_u16, span_u32, span_length, span_part, part_short, part_came, counted_short, onward, cuts_whole}
 
 -- ---- what follows a tag
 pub tail_float : {l : List ℕ} {p e t : ℕ} {r : Reached} → t ≡ 1 → Cuts l p e (hypothesis_tail 1 (span l p e)) r → Cuts l p e (hypothesis_tail t (span l p e)) r

@@ -1,12 +1,11 @@
 -- A cut looks at the bytes that it takes and at no others: other bytes behind them are what is left.
 -- For the last byte of a kind 1 record, and for the record with it changed.
 use mathlib.Core.Path.{◌≡◌, refl, sym, ap, ◌∙◌}
-use mathlib.Core.Bool.{true, false}
 use mathlib.Core.List.{List, [], ◌∷◌, ◌++◌}
-use Prim.Native.Nat.{ℕ, ◌+◌, ◌-◌, ◌*◌, ◌<◌, ◌≤◌}
+use Prim.Native.Nat.{ℕ, ◌+◌, ◌-◌, ◌*◌, ◌≤◌}
 use native.Mathlib.Omega.{arith}
 use lib.Dec.{ltb}
-use lib.ListN.{length, get_or, take, drop, length-drop}
+use lib.ListN.{length, take, drop, length-drop}
 use lib.Seq.{take-take, take-add, drop_at, drop-drop, get_or-take, length-take-le}
 use borrow.Author.Tests.{le-ltb, ltb-false}
 use Rattle.paper.specs.Lookup.{u16_at, u32_at}

@@ -1,9 +1,9 @@
 -- A record renewed, and all records of a stream renewed one after the other.
 -- For the converter's second pass, and for what it promises.
 use mathlib.Core.Path.{◌≡◌, refl, sym, ap, ◌∙◌}
-use mathlib.Core.Bool.{true, false}
+use mathlib.Core.Bool.{true}
 use mathlib.Core.List.{List, [], ◌∷◌, ◌++◌, append_assoc, append-nil}
-use mathlib.Core.Option.{Option, none, some}
+use mathlib.Core.Option.{none}
 use Prim.Native.Nat.{ℕ, ◌+◌, ◌-◌, ◌<◌, ◌≤◌}
 use native.Mathlib.Omega.{arith}
 use lib.ListN.{length, take, drop, length-append, length-drop}
@@ -13,8 +13,7 @@ use borrow.Author.Tests.{eq-eqb, ne_eqb, eqb-true, le-ltb, lt-ltb}
 use Rattle.paper.specs.Base.{gather}
 use Rattle.paper.specs.Records.{u16}
 use Rattle.paper.specs.Lookup.{u16_at, u32_at}
-use Rattle.paper.specs.Answer.{laid}
-use Rattle.paper.specs.Layout.{lowered, shape_of, record_shape, is_some, fits, records_after, stream_records}
+use Rattle.paper.specs.Layout.{lowered, shape_of, record_shape, is_some, fits, stream_records}
 use Rattle.paper.specs.Convert.{first_unfit, renewed, renewal, convert, convert_exit}
 use Rattle.paper.specs.declared.Converted.TheVariants.{Renewed, Unfit, NoRoom}
 use Rattle.paper.proofs.Tests.{split, by_option, eqb_ne}
@@ -23,7 +22,7 @@ use Rattle.stream.specs.Wrote.{Wrote}
 use Rattle.stream.proofs.Wrote.{wrote_none, wrote_then, wrote_as}
 use Rattle.stream.proofs.Records.{length_u16}
 use Rattle.layout.specs.Cuts.{record_from, payload_parts}
-use Rattle.layout.specs.Lowers.{Lowers, Renews}
+use Rattle.layout.specs.Lowers.{Renews}
 use Rattle.layout.specs.Renewal.{unfit_of, unfit, AllFit, Converts}
 use Rattle.layout.specs.declared.convert.Unfitting.TheVariants.{First, Nowhere}
 use Rattle.layout.proofs.Fit.{shape_done}

@@ -1,9 +1,9 @@
 -- The records of a stream by their places: the walk that looks for the first one that does not fit.
 -- For the converter's first pass.
 use mathlib.Core.Path.{◌≡◌, refl, sym, ap, ◌∙◌}
-use mathlib.Core.Bool.{true, false}
+use mathlib.Core.Bool.{true}
 use mathlib.Core.List.{List, [], ◌∷◌, ◌++◌}
-use mathlib.Core.Option.{Option, none, some}
+use mathlib.Core.Option.{none, some}
 use Prim.Native.Nat.{ℕ, zero, suc, ◌+◌, ◌-◌, ◌<◌, ◌≤◌}
 use native.Mathlib.Nat.{add-zero, not-suc-le-zero}
 use native.Mathlib.Omega.{arith}
@@ -11,9 +11,9 @@ use lib.Dec.{eqb, ltb}
 use lib.ListN.{length, take, drop, length-take, length-drop, drop_of_length-le, take-append-drop}
 use lib.Seq.{drop-nil, drop-drop}
 use borrow.Author.Tests.{ltb-false, eqb-true}
-use Rattle.paper.specs.Base.{choose, gather}
+use Rattle.paper.specs.Base.{gather}
 use Rattle.paper.specs.Lookup.{u32_at}
-use Rattle.paper.specs.Layout.{record_shape, is_some, fits, records_after, stream_records}
+use Rattle.paper.specs.Layout.{record_shape, fits, records_after, stream_records}
 use Rattle.paper.specs.Convert.{first_unfit}
 use Rattle.paper.proofs.Tests.{split, clash}
 use Rattle.stream.proofs.Search.{u32_drop}
@@ -21,7 +21,7 @@ use Rattle.layout.specs.Cuts.{record_from, fitting}
 use Rattle.layout.specs.Renewal.{unfit_of, unfit}
 use Rattle.layout.specs.declared.cut.Reached.TheVariants.{Upto, Short}
 use Rattle.layout.specs.declared.convert.Unfitting.TheVariants.{First, Nowhere}
-use Rattle.layout.proofs.Fit.{Fitting, fitting_stands, fitting_not, from_u32}
+use Rattle.layout.proofs.Fit.{fitting_stands, fitting_not, from_u32}
 
 -- ---- the records from a place on
 unfoldable pub records_at : List ℕ → ℕ → List (List ℕ)

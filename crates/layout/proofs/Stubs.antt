@@ -1,21 +1,21 @@
 -- The payload of a kind 1 record that fits: what stands before its stub string, and that the stub string ends it.
 -- And so the same parts, once 128 is taken off the last byte.
 use mathlib.Core.Path.{◌≡◌, refl, sym, ap, ◌∙◌}
-use mathlib.Core.Bool.{true, false}
-use mathlib.Core.List.{List, [], ◌∷◌, ◌++◌}
-use Prim.Native.Nat.{ℕ, ◌+◌, ◌-◌, ◌*◌, ◌<◌, ◌≤◌}
+use mathlib.Core.Bool.{true}
+use mathlib.Core.List.{List, [], ◌∷◌}
+use Prim.Native.Nat.{ℕ, ◌+◌, ◌*◌, ◌<◌, ◌≤◌}
 use native.Mathlib.Omega.{arith}
 use lib.Dec.{ltb}
 use lib.ListN.{length, take, drop, length-drop}
 use lib.Seq.{take_all, take-length, drop-length}
 use borrow.Author.Tests.{le-ltb, ltb-false}
 use Rattle.paper.specs.Lookup.{u32_at, stub_string}
-use Rattle.paper.specs.Layout.{lowered, Cut, short, cut, part, then, counted, a_string, a_stub, float_head}
+use Rattle.paper.specs.Layout.{lowered, cut, part, then, counted, a_string, a_stub, float_head}
 use Rattle.paper.proofs.Tests.{split, clash}
 use Rattle.layout.specs.Lowers.{Lowers}
 use Rattle.layout.proofs.Fit.{done, done_with}
 use Rattle.layout.proofs.Lowered.{lowered_length, lowered_take, lowered_drop, stub_lowers, lowers_drop}
-use Rattle.layout.proofs.Local.{by_cut, Piece, u32_front, local_head}
+use Rattle.layout.proofs.Local.{by_cut, u32_front, local_head}
 
 -- ---- a stub string to the last byte
 pub record Ending (r : List ℕ) : Type 0 where

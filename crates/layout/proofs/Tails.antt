@@ -1,17 +1,16 @@
 -- The parts behind an assertion's label, those of a `$f`, and the payload of each kind, with places.
 -- For the functions that walk over a whole record.
-use mathlib.Core.Path.{◌≡◌, refl, ◌∙◌}
+use mathlib.Core.Path.{◌≡◌}
 use mathlib.Core.Bool.{Bool, true, false}
 use mathlib.Core.List.{List}
 use Prim.Native.Nat.{ℕ, ◌+◌, ◌-◌, ◌*◌, ◌/◌, ◌<◌, ◌≤◌}
 use native.Mathlib.Omega.{arith}
 use borrow.Author.Tests.{ne_eqb}
 use Rattle.paper.specs.Lookup.{u16_at}
-use Rattle.paper.specs.Layout.{Cut, short, part, then, whole, times, counted, a_string, a_stub, an_expression, float_head, names_part, hypotheses_part, back_parts}
-use Rattle.layout.specs.Cuts.{Within, span, Came, Cuts, falls, float_by, assertion_tail, assertion_parts, payload_parts}
+use Rattle.paper.specs.Layout.{short, part, then, counted, a_string, a_stub, an_expression, float_head, names_part, hypotheses_part, back_parts}
+use Rattle.layout.specs.Cuts.{Within, span, Came, Cuts, float_by, assertion_tail, assertion_parts, payload_parts}
 use Rattle.layout.specs.declared.cut.Reached.{Reached}
-use Rattle.layout.specs.declared.cut.Reached.TheVariants.{Short}
-use Rattle.layout.proofs.Cuts.{span_u16, part_short, none, onward, stopped}
+use Rattle.layout.proofs.Cuts.{span_u16, part_short, onward, stopped}
 
 -- ---- target, pairs and rows
 pub back_first : (v : ℕ) (l : List ℕ) → an_expression l ≡ short → back_parts v l ≡ short

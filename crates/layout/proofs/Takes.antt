@@ -1,16 +1,16 @@
 -- Bytes that a cut takes, whatever stands behind them: one part, one after the other, so many times.
 -- For the records that are written.
-use mathlib.Core.Path.{◌≡◌, refl, sym, ap, ◌∙◌}
+use mathlib.Core.Path.{◌≡◌, refl, ap, ◌∙◌}
 use mathlib.Core.List.{List, [], ◌∷◌, ◌++◌, append_assoc}
-use Prim.Native.Nat.{ℕ, zero, suc, ◌+◌, ◌*◌, ◌<◌, ◌≤◌}
+use Prim.Native.Nat.{ℕ, ◌+◌, ◌*◌, ◌<◌}
 use native.Mathlib.Omega.{arith}
-use lib.ListN.{length, take, drop, length-append}
+use lib.ListN.{length, length-append}
 use lib.Seq.{take-append_seam, drop-append_seam}
 use borrow.Author.Tests.{le-ltb}
 use Rattle.paper.specs.Base.{gather}
 use Rattle.paper.specs.Records.{le, u16, u32, string}
 use Rattle.paper.specs.Lookup.{u16_at, u32_at}
-use Rattle.paper.specs.Layout.{Cut, short, cut, part, then, whole, skipped, times, counted, a_string}
+use Rattle.paper.specs.Layout.{Cut, cut, part, then, whole, skipped, times, counted, a_string}
 use Rattle.paper.proofs.Alls.{All, all_none, all_more}
 use Rattle.stream.proofs.Records.{length_u32}
 

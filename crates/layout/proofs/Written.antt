@@ -1,7 +1,7 @@
 -- The record of a regular frame fits its layout to the last byte.
 -- Part by part, in the order in which it is written.
-use mathlib.Core.Path.{◌≡◌, refl, sym, ap, ◌∙◌}
-use mathlib.Core.Bool.{true, false}
+use mathlib.Core.Path.{◌≡◌, sym, ap, ◌∙◌}
+use mathlib.Core.Bool.{true}
 use mathlib.Core.List.{List, [], ◌∷◌, ◌++◌, append_assoc, append-nil}
 use Prim.Native.Nat.{ℕ, suc, ◌+◌, ◌*◌, ◌/◌, ◌%◌, ◌<◌, ◌≤◌}
 use native.Mathlib.Omega.{arith}
@@ -13,13 +13,13 @@ use Rattle.paper.specs.Expressions.{Hypothesis, of_float, of_essential}
 use Rattle.paper.specs.Frames.{Full, Frame, stub, full}
 use Rattle.paper.specs.Records.{le, u16, u32, string, framed, expression_bytes, hypothesis_bytes, pair_bytes, row_bytes, full_payload, frame_record}
 use Rattle.paper.specs.Lookup.{u16_at, u32_at}
-use Rattle.paper.specs.Layout.{Cut, short, cut, part, then, whole, skipped, times, counted, a_string, an_address, an_expression, hypothesis_tail, a_hypothesis, float_head, label_part, names_part, hypotheses_part, back_parts, shape_of, record_shape, is_some, fits}
+use Rattle.paper.specs.Layout.{Cut, cut, part, then, whole, times, counted, a_string, an_address, an_expression, a_hypothesis, float_head, label_part, names_part, hypotheses_part, back_parts, record_shape, fits}
 use Rattle.paper.proofs.Tests.{split}
 use Rattle.stream.proofs.Records.{length_u16, length_u32, length_string}
-use Rattle.layout.specs.Cuts.{float_by, assertion_tail, assertion_parts, payload_parts}
+use Rattle.layout.specs.Cuts.{assertion_tail, assertion_parts, payload_parts}
 use Rattle.layout.specs.Regular.{RegularFull, Regular}
 use Rattle.layout.proofs.Fit.{done, shape_done}
-use Rattle.layout.proofs.Takes.{Taken, Takes, u32_read, u16_read, takes_part, takes_counted, takes_string, takes_then, takes_whole, takes_as, takes_times}
+use Rattle.layout.proofs.Takes.{Takes, u32_read, u16_read, takes_part, takes_counted, takes_string, takes_then, takes_whole, takes_as, takes_times}
 use Rattle.layout.proofs.Formed.{pairs_length, takes_address, takes_expression, takes_hypothesis, each_short}
 
 -- ---- what is cut whole, and the record around it

@@ -1,20 +1,18 @@
 -- Every stream that the writer gives fits its layout: its records are those of its frames, and each is regular.
 -- From the lengths of records, which number 7 and the text's length bound.
-use mathlib.Core.Path.{◌≡◌, refl, sym, ap, ◌∙◌}
-use mathlib.Core.Bool.{true, false}
-use mathlib.Core.List.{List, [], ◌∷◌, ◌++◌, map}
+use mathlib.Core.Path.{◌≡◌, ap, ◌∙◌}
+use mathlib.Core.List.{List}
 use mathlib.Core.Option.{none}
 use Prim.Native.Nat.{ℕ, ◌+◌, ◌<◌, ◌≤◌}
 use native.Mathlib.Omega.{arith}
 use lib.ListN.{length, length-append}
-use Rattle.paper.specs.Base.{find, gather}
+use Rattle.paper.specs.Base.{find}
 use Rattle.paper.specs.Statements.{Statement}
 use Rattle.paper.specs.State.{nothing}
-use Rattle.paper.specs.Frames.{Frame, frame_as}
-use Rattle.paper.specs.Give.{Given, all_given}
-use Rattle.paper.specs.Records.{u16, u32, framed, frame_record, frame_stream}
-use Rattle.paper.specs.Answer.{Streams, crowded, frame_at, frames_in, streams}
-use Rattle.paper.specs.Layout.{fits}
+use Rattle.paper.specs.Frames.{frame_as}
+use Rattle.paper.specs.Give.{all_given}
+use Rattle.paper.specs.Records.{framed, frame_record, frame_stream}
+use Rattle.paper.specs.Answer.{crowded, frames_in}
 use Rattle.paper.specs.declared.Setting.{Setting}
 use Rattle.paper.proofs.Alls.{All, all_map, all_both}
 use Rattle.paper.proofs.Searches.{all_gather, find_none}

@@ -1,6 +1,6 @@
 -- Parts of a record, with places: where a part ends that starts at p in the bytes l and has to end before e; and whole records.
 -- The parts themselves are those of `paper`'s Layout.
-use Rattle.std.specs.Prelude.{◌≡◌, Bool, true, false, List, [], ◌∷◌, ℕ, ◌+◌, ◌≤◌, eqb, length, take, drop}
+use Rattle.std.specs.Prelude.{◌≡◌, Bool, true, false, List, ℕ, ◌+◌, ◌≤◌, eqb, length, take, drop}
 use Rattle.paper.specs.Base.{choose, or}
 use Rattle.paper.specs.Lookup.{u16_at, u32_at}
 use Rattle.paper.specs.Layout.{Cut, short, cut, then, a_string, a_stub, float_head, label_part, names_part, hypotheses_part, back_parts, fits}

@@ -1,6 +1,6 @@
 -- A frame whose record fits its layout: its kind is that of an assertion, its rows are V by V, and every length fits its field.
 -- Every frame of a text that is answered is one.
-use Rattle.std.specs.Prelude.{◌≡◌, true, ℕ, ◌+◌, ◌*◌, ◌/◌, ◌<◌, eqb, length}
+use Rattle.std.specs.Prelude.{◌≡◌, true, ◌+◌, ◌*◌, ◌/◌, ◌<◌, eqb, length}
 use Rattle.paper.specs.Base.{or, gather}
 use Rattle.paper.specs.Frames.{Full, Frame, stub, full}
 use Rattle.paper.specs.Records.{row_bytes, frame_record}

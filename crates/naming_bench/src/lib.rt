@@ -1,4 +1,6 @@
 // Reading and naming without checks and frames, for `bench/run`: it says how much of a call the walk over the names takes.
+#![tactic(auto)]
+
 ghost use Rattle.std.specs.Prelude.{length};
 ghost use Rattle.paper.specs.Reader.{reading};
 ghost use Rattle.naming_bench.specs.Names.{Names};

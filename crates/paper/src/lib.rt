@@ -1,5 +1,6 @@
 // The types that the definitions and the code share: the kinds of number, and the answers.
 // `specs/Answer.antt` gives document 01's number, place and lengths for each case of an answer.
+#![tactic(auto)]
 
 /// A distinct name, numbered by first sight.
 #[derive(Clone, Copy)]

@@ -20,15 +20,27 @@ use Rattle.paper.proofs.Keys.{math_no_key}
 use Rattle.paper.proofs.Allowed.{bracket_stops}
 use Rattle.paper.proofs.Comments.{visible_append}
 use Rattle.token.proofs.Words.{tokens_end}
-use Rattle.token.specs.Words.{tokens_from, token_of, Read}
+use Rattle.token.proofs.Read.{read_token}
+use Rattle.token.specs.Words.{tokens_from, token_of, next_of, Read}
 use Rattle.token.specs.declared.cursor.Span.{Span}
 use Rattle.token.specs.declared.cursor.Cursor.{Cursor}
+use Rattle.token.specs.declared.cursor.Next.{Next}
+use Rattle.token.specs.declared.cursor.Next.TheVariants as next
 use Rattle.reader.specs.declared.comment.Comment.TheVariants as comment
 use Rattle.reader.specs.declared.comment.Look.TheVariants as look
-use Rattle.reader.specs.Passed.{Passed, Commented, Shows, spoilt, Refuses, Looked}
+use Rattle.reader.specs.declared.comment.Visible.{Visible}
+use Rattle.reader.specs.declared.comment.Visible.TheVariants as vis
+use Rattle.reader.specs.Passed.{Passed, Commented, Shows, spoilt, Refuses, Looked, Seen}
 use Rattle.reader.proofs.Passes.{passed_none, passed_then, passed_end, passed_few, pass_open, pass_shown, token_less}
 use Rattle.reader.proofs.After.{earlier_token}
 use Rattle.reader.proofs.Grammar.{many_stop, reached_run, whole_on, to_end}
+
+-- ---- an answer that is a token
+pub took : {t : List ℕ} {i : ℕ} {x : Span} {c : Cursor} {a : Next} → a ≡ next.Token x c → a ≡ next_of t (tokens_from t i) → Read t i x c
+took {t} {i} {x} {c} e h = read_token t i x c (sym e ∙ h)
+
+pub shown : {t : List ℕ} {i : ℕ} {x : Span} {c : Cursor} {a : Visible} → a ≡ vis.Token x c → Seen t i a → Shows t i x c
+shown e h = rw e at h
 
 -- ---- what may not stand in a comment
 many_bad : (y : Token) (l : List Token) (m : Mode) (d : ℕ) (j : List Item) → bracketed y.bytes ≡ true → many (y ∷ l) (go m d j) ≡ stop y.at

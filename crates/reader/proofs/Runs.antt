@@ -3,8 +3,6 @@
 use mathlib.Core.Path.{◌≡◌, refl, sym, ◌∙◌}
 use mathlib.Core.Bool.{Bool, true, false}
 use mathlib.Core.List.{List, [], ◌∷◌, ◌++◌}
-use mathlib.Core.Logic.{◌⊎◌, inl, inr}
-use denote.Enum.Declared.{tag_of}
 use Prim.Native.Nat.{ℕ, ◌+◌, ◌-◌, ◌<◌, zero-le}
 use native.Mathlib.Nat.{le_refl, not-suc-le-zero}
 use native.Mathlib.Omega.{arith}
@@ -28,7 +26,6 @@ use Rattle.reader.specs.Hops.{Hopped}
 use Rattle.reader.specs.Runs.{RunRoom, Running, Stretched, Proving, math_next}
 use Rattle.reader.specs.declared.comment.Visible.{Visible}
 use Rattle.reader.specs.declared.comment.Visible.TheVariants as vis
-use Rattle.reader.specs.contracts.comment.Visible.{the_type}
 use Rattle.reader.proofs.Dollars.{and_both}
 use Rattle.reader.proofs.Passes.{passed_none, passed_then, passed_few, shows_gap, shows_within}
 
@@ -170,11 +167,10 @@ proving_on {t} {at} {stop} {s} h y =
     }
 
 -- ---- what ends a run: no token, no math token, or enough of them
-pub not_token : (t : List ℕ) (v : Visible) → (tag_of the_type v ≡ 1) ⊎ (tag_of the_type v ≡ 2) → math_next t v ≡ false
-not_token t (vis.Token x c) (inl e) = absurd (omega (arith, e))
-not_token t (vis.Token x c) (inr e) = absurd (omega (arith, e))
-not_token t (vis.Refused p l) e = refl
-not_token t vis.End e = refl
+pub not_token : (t : List ℕ) (v : Visible) → ((x : Span) (c : Cursor) → v ≡ vis.Token x c → ⊥) → math_next t v ≡ false
+not_token t (vis.Token x c) h = absurd (h x c refl)
+not_token t (vis.Refused p l) h = refl
+not_token t vis.End h = refl
 
 pub not_math : {t : List ℕ} {stop : ℕ} {x : Span} {c : Cursor} → Shows t stop x c → x.least < 3 → math_token (token_of t x) ≡ false
 not_math {t} {stop} {x} s l = sym s.whole.math ∙ lt-leb 3 x.least l

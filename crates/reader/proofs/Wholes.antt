@@ -1,7 +1,6 @@
 -- The whole text: from no item to all of them, and from the words with ends to the rows that the crates above see.
 -- Assumes nothing.
-use mathlib.Core.Path.{◌≡◌, refl, sym, ap, ◌∙◌}
-use mathlib.Core.Bool.{false}
+use mathlib.Core.Path.{◌≡◌, refl, ap, ◌∙◌}
 use mathlib.Core.List.{List, [], ◌∷◌}
 use Prim.Native.Nat.{ℕ, zero, suc, ◌+◌, ◌*◌, ◌<◌, ◌≤◌}
 use native.Mathlib.Nat.{not-suc-le-zero, le_of_suc-le-suc}
@@ -24,7 +23,9 @@ use Rattle.reader.specs.Passed.{Passed, RefusedAt}
 use Rattle.reader.specs.Kept.{stated, Row, Words}
 use Rattle.reader.specs.Held.{Held}
 use Rattle.reader.specs.Ends.{EndsRoom, Ended}
-use Rattle.reader.specs.Whole.{Finished, Answers}
+use Rattle.reader.specs.Whole.{Finished, AllRead, Answers}
+use Rattle.reader.specs.declared.whole.All.{All}
+use Rattle.reader.specs.declared.whole.All.TheVariants as every
 use Rattle.token.specs.declared.cursor.Cursor.{Cursor}
 use Rattle.reader.specs.declared.state.State.{State}
 use Rattle.token.proofs.Counts.{few_tokens}
@@ -57,6 +58,9 @@ module _ {t w : List ℕ} {n : ℕ} {s : State} (h : Held t w n s) (p : Passed t
         maths = omega (arith, x.size);
         items_few = omega (arith, x.size);
       }
+
+pub done : {t v : List ℕ} {n : ℕ} {s : State} {a : All} → a ≡ every.Done s → AllRead t v n a → Finished t v n s
+done e h = rw e at h
 
 -- ---- the statements with their ends are those without, but for their ends
 ends_count : (i : List Item) (l : List ℕ) → length (ends i l) ≡ length (stated i)

@@ -1,6 +1,6 @@
 -- Proofs passed by their bytes: up to the first that is neither white space nor a math byte, and back to where its token begins.
 -- `t` is the text; between the two places only math tokens stand.
-use Rattle.std.specs.Prelude.{◌≡◌, Bool, true, false, List, ℕ, ◌-◌, ◌<◌, ◌≤◌, length, get_or}
+use Rattle.std.specs.Prelude.{◌≡◌, Bool, true, false, List, ℕ, ◌<◌, ◌≤◌, length, get_or}
 use Rattle.paper.specs.Base.{or, all}
 use Rattle.paper.specs.Bytes.{white, math_byte}
 use Rattle.paper.specs.Tokens.{Token, math_token}

@@ -1,5 +1,7 @@
 // The statement and group reader: numbers 1 to 6, and the statements of a text in the rows of the work area.
 // What it leaves there is said in `specs/Rows.antt`; that and the answer are all that the crates above see.
+#![tactic(auto)]
+
 ghost use Rattle.reader.specs.Whole.{Reads};
 
 use crate::whole::read_text;

@@ -1,4 +1,6 @@
 // The reader for `bench/read`, which times it and tries the longest texts.
+#![tactic(auto)]
+
 ghost use Rattle.std.specs.Prelude.{◌≡◌, length};
 ghost use Rattle.paper.specs.Reader.{reading};
 ghost use Rattle.paper.specs.Answer.{refusal_number};

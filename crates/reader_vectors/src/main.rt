@@ -1,6 +1,8 @@
 // Runs the reader over recorded texts and writes what it finds: number, place and line, or statements and math tokens, then every word
 // of the work area that is not 0. The file `cases` of `data/` has them one after the other: u16 length of the text, u16 words of the
 // work area, and the text; what a case leaves in the work area is there when the next begins. `make.py` wrote it, and `stdout`.
+#![tactic(auto)]
+
 ghost use Rattle.std.specs.Prelude.{◌≤◌, ◌<◌, length};
 
 use paper::{Reading, Refusal};

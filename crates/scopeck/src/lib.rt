@@ -1,5 +1,7 @@
 // The checks of every statement, one after the other: diagnostics, what is recorded, and which statements are accepted.
 // The state goes in by value and comes back; the words and the diagnostics buffer are lent.
+#![tactic(auto)]
+
 use paper::{Atom, StatementOffset};
 
 pub mod kinds;

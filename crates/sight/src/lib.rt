@@ -1,5 +1,7 @@
 // Variables numbered by first sight, in the work area (carries the numbering half of scan_expression and scan_dv).
 // A name whose word NUMBER is not 0 has its number already, or is a constant: both are passed over.
+#![tactic(auto)]
+
 ghost use Rattle.std.specs.Prelude.{◌≡◌, ◌+◌, ◌*◌, ◌<◌, ◌≤◌, length};
 ghost use Rattle.area.specs.Cells.{symbol_cell, word};
 ghost use Rattle.sight.specs.Numbered.{constant_words, seen_words, seen_count, SomeHold, CanScan, Scans, CanScanAll, ScansAll, Forgets, SomeUnnumbered, Presets};

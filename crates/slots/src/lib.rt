@@ -1,5 +1,7 @@
 // Words against state: one slot for each name, the stacks of active `$e` and `$d`, and the marks of a `$d`.
 // Functions promise equations over the words, and laws say what these stand for; `check_math_symbol` promises the definition.
+#![tactic(auto)]
+
 use paper::{Atom, StatementRow, TokenIndex, TokenOffset};
 
 pub mod cells;

@@ -52,7 +52,7 @@ asked : (facts_at frames 64 ≡ record { kind = Number 2; variables = Number 2; 
 unfolding le u16 u32 string framed gather table fragment_bytes expression_bytes hypothesis_bytes pair_bytes octet row_bytes full_payload frame_record u16_at u32_at stub_if label_from label_by label_in framing label_at kind_at counts_at variables_at mandatory_at hypotheses_at after_strings
 asked = (refl, refl, refl, refl)
 
--- look_up: a label that is there, one that is not, and a stream with a byte too many
+-- look-up: a label that is there, one that is not, and a stream with a byte too many
 answers : (look_up frames (codes "ax") ≡ At 64) × (look_up frames (codes "wx0") ≡ Missing) × (look_up (frames ++ (0 ∷ [])) (codes "wx") ≡ Malformed 152)
 unfolding le u16 u32 string framed gather table fragment_bytes expression_bytes hypothesis_bytes pair_bytes octet row_bytes full_payload frame_record u16_at u32_at stub_if label_of sameb search_from look_up
 answers = (refl, refl, refl)

@@ -8,13 +8,12 @@ use native.Mathlib.Omega.{arith}
 use lib.Dec.{eqb, ltb}
 use lib.ListN.{length}
 use borrow.Author.Tests.{lt-ltb, le-ltb, ltb-false}
-use Rattle.paper.specs.Base.{choose, or}
+use Rattle.paper.specs.Base.{or}
 use Rattle.paper.specs.Lookup.{u32_at}
 use Rattle.stream.specs.Framing.{framing}
 use Rattle.stream.specs.Fields.{counts_in, counts_at, after_strings}
 use Rattle.stream.specs.declared.walk.Framing.{Framing}
 use Rattle.stream.specs.declared.walk.Framing.TheVariants.{Well, Badly}
-use Rattle.stream.specs.declared.field.Part.{Part}
 use Rattle.stream.specs.declared.field.Part.TheVariants.{From, NoPart}
 use Rattle.stream.proofs.Past.{past}
 use Rattle.stream.proofs.Search.{stands}

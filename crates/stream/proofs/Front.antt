@@ -1,6 +1,6 @@
 -- Bytes written before others that were written first: a record's length, once its payload is there.
 -- Assumes nothing.
-use mathlib.Core.Path.{◌≡◌, refl, sym, ap, ◌∙◌}
+use mathlib.Core.Path.{◌≡◌, sym, ap, ◌∙◌}
 use mathlib.Core.List.{List, ◌++◌, append_assoc}
 use Prim.Native.Nat.{ℕ, ◌+◌, ◌≤◌}
 use native.Mathlib.Omega.{arith}
@@ -8,7 +8,6 @@ use lib.ListN.{length, take, drop, length-append}
 use lib.Seq.{take-take, take-append-le, drop_at, length-take-le}
 use Rattle.paper.specs.Answer.{laid}
 use Rattle.stream.specs.Wrote.{Wrote}
-use Rattle.stream.proofs.Laid.{length_laid}
 
 pub laid_front :
     (l : List ℕ) (i : ℕ) (a b : List ℕ) → i + length a + length b ≤ length l

@@ -8,7 +8,7 @@ use native.Mathlib.Omega.{arith}
 use lib.Dec.{leb}
 use lib.ListN.{length, get_or, take}
 use borrow.Author.Tests.{leb-true}
-use Rattle.paper.specs.Base.{all, and}
+use Rattle.paper.specs.Base.{all}
 use Rattle.paper.specs.Bytes.{printable, math_byte}
 use Rattle.paper.specs.Expressions.{raised}
 use Rattle.paper.proofs.Tests.{split, clash}

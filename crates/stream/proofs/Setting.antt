@@ -6,7 +6,7 @@ use mathlib.Core.List.{List, [], ◌++◌}
 use Prim.Native.Nat.{ℕ, suc, ◌+◌, ◌*◌, ◌/◌, ◌<◌, ◌≤◌}
 use native.Mathlib.Nat.{mul-le-mul_right, suc-mul}
 use native.Mathlib.Omega.{arith}
-use lib.ListN.{length, get_or, take, drop, set, length-set}
+use lib.ListN.{length, get_or, take, drop, length-set}
 use lib.Seq.{length-take-le}
 use Rattle.paper.specs.Base.{gather}
 use Rattle.paper.specs.Answer.{laid}

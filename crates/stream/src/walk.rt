@@ -1,4 +1,4 @@
-// Reading a frame stream: numbers at a place, the framing of one record, and the look_up of a label.
+// Reading a frame stream: numbers at a place, the framing of one record, and the look-up of a label.
 // Nothing is changed; every buffer and every label has an answer.
 ghost use Rattle.std.specs.Prelude.{◌≡◌, ◌+◌, ◌-◌, ◌<◌, ◌≤◌, ◌^◌, length};
 ghost use Rattle.paper.specs.Base.{sameb};

@@ -1,6 +1,8 @@
 // Runs look-up over recorded frame streams, whole ones and damaged copies, and writes number and place of each answer.
 // Standard input has the cases one after the other: u16 length of the stream, u16 length of the label, and their bytes.
 // `make.py` wrote them, and `stdout`, the answers of the paper's model.
+#![tactic(auto)]
+
 ghost use Rattle.std.specs.Prelude.{◌≡◌, ◌≤◌, ◌<◌, length};
 ghost use Rattle.paper.specs.Lookup.{found_number, found_place};
 

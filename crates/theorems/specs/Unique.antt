@@ -1,4 +1,4 @@
--- Uniqueness: any two results that the definitions allow are equal, for measure, writer and look_up.
+-- Uniqueness: any two results that the definitions allow are equal, for measure, writer and look-up.
 -- What they allow is a function of the inputs: the answer, and every lent buffer at exit.
 use Rattle.std.specs.Prelude.{◌≡◌, List, ℕ, length}
 use Rattle.paper.specs.Answer.{measure, answer, frames_exit, diags_exit, work_exit}
@@ -38,7 +38,7 @@ pub record Allowed (c : Setting) (t w f d : List ℕ) (r : Result) : Type 0 wher
 abbrev pub Unique : Type 0
 Unique = (c : Setting) (t w f d : List ℕ) (r s : Result) → Allowed c t w f d r → Allowed c t w f d s → r ≡ s
 
--- ---- look_up of the label n in the frame buffer f
+-- ---- look-up of the label n in the frame buffer f
 pub record LookedUp : Type 0 where
   pub found : Found
   pub frames : List ℕ

@@ -1,5 +1,4 @@
 use Rattle.capi.proofs.Promises.{changed}
-use borrow.Author.Rules.{rules}
 use Rattle.capi.proofs.janorembe_convert.Goals as goal
 
 pub returns : goal.returns

@@ -1,5 +1,4 @@
 use Rattle.capi.proofs.Promises.{looked}
-use borrow.Author.Rules.{rules}
 use Rattle.capi.proofs.janorembe_lookup.Goals as goal
 
 pub returns : goal.returns

@@ -1,5 +1,4 @@
 use Rattle.capi.proofs.Promises.{gauged}
-use borrow.Author.Rules.{rules}
 use Rattle.capi.proofs.janorembe_measure.Goals as goal
 
 pub returns : goal.returns

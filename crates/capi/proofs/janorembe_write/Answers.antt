@@ -1,5 +1,4 @@
 use Rattle.capi.proofs.Promises.{written}
-use borrow.Author.Rules.{rules}
 use Rattle.capi.proofs.janorembe_write.Goals as goal
 
 pub returns : goal.returns

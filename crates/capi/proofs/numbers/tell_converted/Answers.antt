@@ -1,4 +1,3 @@
-use borrow.Author.Rules.{rules}
 use Rattle.capi.proofs.numbers.tell_converted.Goals as goal
 
 pub returns-in-Renewed : goal.returns-in-Renewed

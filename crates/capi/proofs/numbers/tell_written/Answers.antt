@@ -1,4 +1,3 @@
-use borrow.Author.Rules.{rules}
 use Rattle.capi.proofs.numbers.tell_written.Goals as goal
 
 pub returns-in-Done : goal.returns-in-Done

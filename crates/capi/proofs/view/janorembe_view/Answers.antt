@@ -1,5 +1,4 @@
 use Rattle.capi.proofs.Views.{viewed}
-use borrow.Author.Rules.{rules}
 use Rattle.capi.proofs.view.janorembe_view.Goals as goal
 
 pub returns : goal.returns

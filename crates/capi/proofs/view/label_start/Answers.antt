@@ -1,6 +1,5 @@
 use mathlib.Core.Path.{ap}
 use Prim.Native.Nat.{ℕ, ◌+◌}
-use borrow.Author.Rules.{rules}
 use Rattle.capi.proofs.view.label_start.Goals as goal
 
 pub returns-in-Number : goal.returns-in-Number

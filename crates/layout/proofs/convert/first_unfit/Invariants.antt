@@ -1,10 +1,6 @@
-use mathlib.Core.Path.{sym, ◌∙◌}
 use Prim.Native.Nat.{◌-◌}
-use native.Mathlib.Omega.{arith}
 use lib.ListN.{length}
-use Rattle.layout.proofs.Fit.{fitting_stands}
-use Rattle.layout.proofs.Streams.{Looked, looked_start, looked_next, looked_bad, looked_end}
-use borrow.Author.Rules.{rules}
+use Rattle.layout.proofs.Streams.{Looked}
 use Rattle.layout.proofs.convert.first_unfit.Given as goal
 
 abbrev pub invariant-loop-at : goal.invariant-loop-at

@@ -1,9 +1,7 @@
-use Prim.Native.Nat.{◌+◌, ◌-◌}
+use Prim.Native.Nat.{◌+◌}
 use native.Mathlib.Omega.{arith}
-use lib.ListN.{length}
 use Rattle.layout.proofs.Streams.{stood}
-use Rattle.layout.proofs.Renewing.{Putting, put_start, put_fits, put_next, put_end, from_slice, fits_renews}
-use borrow.Author.Rules.{rules}
+use Rattle.layout.proofs.Renewing.{put_start, put_fits, put_next, put_end, from_slice, fits_renews}
 use Rattle.layout.proofs.convert.put_all.Goals as goal
 
 pub loop-at-init : goal.loop-at-init

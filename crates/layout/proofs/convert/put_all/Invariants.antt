@@ -1,9 +1,6 @@
-use Prim.Native.Nat.{◌+◌, ◌-◌}
-use native.Mathlib.Omega.{arith}
+use Prim.Native.Nat.{◌-◌}
 use lib.ListN.{length}
-use Rattle.layout.proofs.Streams.{stood}
-use Rattle.layout.proofs.Renewing.{Putting, put_start, put_fits, put_next, put_end, from_slice, fits_renews}
-use borrow.Author.Rules.{rules}
+use Rattle.layout.proofs.Renewing.{Putting}
 use Rattle.layout.proofs.convert.put_all.Given as goal
 
 abbrev pub invariant-loop-at : goal.invariant-loop-at

@@ -3,7 +3,6 @@ use native.Mathlib.Omega.{arith}
 use lib.ListN.{length, length-take}
 use Rattle.stream.proofs.Wrote.{wrote_then, wrote_as}
 use Rattle.layout.proofs.Lowered.{lowered_last}
-use borrow.Author.Rules.{rules}
 use Rattle.layout.proofs.convert.put_lowered.Goals as goal
 
 pub overflow_sub-last : goal.overflow_sub-last

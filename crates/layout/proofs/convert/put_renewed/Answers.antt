@@ -3,7 +3,6 @@ use native.Mathlib.Omega.{arith}
 use lib.ListN.{length-take, length-drop}
 use Rattle.stream.proofs.Wrote.{wrote_then, wrote_as}
 use Rattle.layout.proofs.Renewing.{renewed_other, renewed_old, part_rest}
-use borrow.Author.Rules.{rules}
 use Rattle.layout.proofs.convert.put_renewed.Goals as goal
 
 pub u16_at-requires : goal.u16_at-requires

@@ -1,9 +1,7 @@
-use Prim.Native.Nat.{◌*◌}
 use native.Mathlib.Nat.{mul-le-mul_right}
 use native.Mathlib.Omega.{arith}
 use Rattle.layout.specs.Cuts.{falls}
 use Rattle.layout.proofs.Cuts.{counted_short, counted_cuts}
-use borrow.Author.Rules.{rules}
 use Rattle.layout.proofs.cut.after_counted.Goals as goal
 
 pub overflow_sub-end : goal.overflow_sub-end

@@ -1,10 +1,7 @@
-use mathlib.Core.Path.{ap}
-use Prim.Native.Nat.{◌≤◌}
 use native.Mathlib.Omega.{arith}
 use Rattle.layout.specs.Cuts.{falls}
-use Rattle.layout.proofs.Cuts.{came, none, further, onward, stopped, cuts_whole, came_skipped}
+use Rattle.layout.proofs.Cuts.{came, none, further, onward, stopped, cuts_whole}
 use Rattle.paper.specs.Layout.{an_expression, then, counted, part}
-use borrow.Author.Rules.{rules}
 use Rattle.layout.proofs.cut.after_expression.Goals as goal
 
 pub after_counted-requires : goal.after_counted-requires

@@ -1,10 +1,8 @@
 use mathlib.Core.Path.{ap}
-use Prim.Native.Nat.{◌≤◌}
 use native.Mathlib.Omega.{arith}
 use Rattle.layout.specs.Cuts.{falls}
-use Rattle.layout.proofs.Cuts.{came, none, further, onward, stopped, cuts_whole, came_skipped}
+use Rattle.layout.proofs.Cuts.{came, none, further, onward, stopped, came_skipped}
 use Rattle.paper.specs.Layout.{hypothesis_tail, then, skipped, part, a_string}
-use borrow.Author.Rules.{rules}
 use Rattle.layout.proofs.cut.after_float.Goals as goal
 
 pub after_part-requires : goal.after_part-requires

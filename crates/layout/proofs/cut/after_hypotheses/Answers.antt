@@ -1,7 +1,6 @@
 use native.Mathlib.Omega.{arith}
 use Rattle.layout.specs.Cuts.{falls}
 use Rattle.layout.proofs.Hypotheses.{hypotheses_short, hypotheses_cuts}
-use borrow.Author.Rules.{rules}
 use Rattle.layout.proofs.cut.after_hypotheses.Goals as goal
 
 pub overflow_sub-end : goal.overflow_sub-end

@@ -3,7 +3,6 @@ use Rattle.paper.specs.Layout.{a_string, names_part}
 use Rattle.layout.specs.Cuts.{falls}
 use Rattle.layout.proofs.Cuts.{came, none, further, onward, stopped}
 use Rattle.layout.proofs.Hypotheses.{names_cuts}
-use borrow.Author.Rules.{rules}
 use Rattle.layout.proofs.cut.after_names.Goals as goal
 
 pub overflow_add-from : goal.overflow_add-from

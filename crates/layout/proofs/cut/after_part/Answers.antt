@@ -1,7 +1,6 @@
 use native.Mathlib.Omega.{arith}
 use Rattle.layout.specs.Cuts.{comes, falls}
 use Rattle.layout.proofs.Cuts.{part_short, part_came}
-use borrow.Author.Rules.{rules}
 use Rattle.layout.proofs.cut.after_part.Goals as goal
 
 pub overflow_sub-end : goal.overflow_sub-end

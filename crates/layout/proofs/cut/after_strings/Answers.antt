@@ -1,8 +1,6 @@
 use native.Mathlib.Omega.{arith}
-use Rattle.paper.specs.Layout.{a_string}
 use Rattle.layout.specs.Cuts.{comes, falls}
-use Rattle.layout.proofs.Cuts.{came, none, Steps, steps_start, steps_next, steps_short, steps_end}
-use borrow.Author.Rules.{rules}
+use Rattle.layout.proofs.Cuts.{came, none, steps_start, steps_next, steps_short, steps_end}
 use Rattle.layout.proofs.cut.after_strings.Goals as goal
 
 pub loop-left-init : goal.loop-left-init

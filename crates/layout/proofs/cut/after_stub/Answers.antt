@@ -2,7 +2,6 @@ use mathlib.Core.Path.{sym, ◌∙◌}
 use native.Mathlib.Omega.{arith}
 use Rattle.layout.specs.Cuts.{comes, falls}
 use Rattle.layout.proofs.Hypotheses.{stub_short, stub_over, stub_came, stub_not}
-use borrow.Author.Rules.{rules}
 use Rattle.layout.proofs.cut.after_stub.Goals as goal
 
 pub overflow_sub-end : goal.overflow_sub-end

@@ -1,6 +1,5 @@
 use Rattle.layout.specs.Cuts.{falls}
 use Rattle.layout.proofs.Hypotheses.{tail_float, tail_essential, tail_none}
-use borrow.Author.Rules.{rules}
 use Rattle.layout.proofs.cut.after_tag.Goals as goal
 
 pub after_float-requires : goal.after_float-requires

@@ -3,7 +3,6 @@ use native.Mathlib.Omega.{arith}
 use Rattle.paper.specs.Layout.{skipped, a_string}
 use Rattle.layout.specs.Cuts.{falls, assertion_tail, assertion_parts}
 use Rattle.layout.proofs.Cuts.{came, none, further, onward, stopped, came_skipped}
-use borrow.Author.Rules.{rules}
 use Rattle.layout.proofs.whole.after_assertion.Goals as goal
 
 pub after_part-requires : goal.after_part-requires
@@ -25,4 +24,4 @@ after_tail-requires c = further c.requires (came (onward a_string (came_skipped 
 
 pub returns : goal.returns
 unfolding assertion_parts
-returns c = onward assertion_tail (came (onward a_string (came_skipped (came c.after_part.ensures c.in-Upto.is)) c.after_counted.ensures) c.in-Upto-after_counted.is) c.after_IsTail.ensures
+returns c = onward assertion_tail (came (onward a_string (came_skipped (came c.after_part.ensures c.in-Upto.is)) c.after_counted.ensures) c.in-Upto-after_counted.is) c.after_tail.ensures

@@ -4,7 +4,6 @@ use native.Mathlib.Omega.{arith}
 use Rattle.layout.specs.Cuts.{falls}
 use Rattle.layout.proofs.Cuts.{came, none, further}
 use Rattle.layout.proofs.Tails.{back_first, back_second, back_cuts}
-use borrow.Author.Rules.{rules}
 use Rattle.layout.proofs.whole.after_back.Goals as goal
 
 pub after_expression-requires : goal.after_expression-requires

@@ -2,7 +2,6 @@ use native.Mathlib.Omega.{arith}
 use Rattle.layout.specs.Cuts.{falls}
 use Rattle.layout.proofs.Cuts.{came, none, further}
 use Rattle.layout.proofs.Tails.{float_none, float_stub, float_plain}
-use borrow.Author.Rules.{rules}
 use Rattle.layout.proofs.whole.after_float.Goals as goal
 
 pub after_head-requires : goal.after_head-requires

@@ -1,6 +1,5 @@
 use Rattle.layout.specs.Cuts.{falls}
 use Rattle.layout.proofs.Tails.{payload_plain, payload_stub, payload_axiom, payload_theorem, payload_none}
-use borrow.Author.Rules.{rules}
 use Rattle.layout.proofs.whole.after_payload.Goals as goal
 
 pub after_float-requires : goal.after_float-requires

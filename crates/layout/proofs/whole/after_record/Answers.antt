@@ -1,7 +1,6 @@
 use native.Mathlib.Omega.{arith}
 use Rattle.layout.proofs.Cuts.{came, none}
 use Rattle.layout.proofs.Fit.{fitting_few, fitting_small, fitting_over, fitting_short, fitting_left, fitting_all}
-use borrow.Author.Rules.{rules}
 use Rattle.layout.proofs.whole.after_record.Goals as goal
 
 pub returns-then-bytes-at : goal.returns-then-bytes-at

@@ -2,7 +2,6 @@ use native.Mathlib.Omega.{arith}
 use Rattle.layout.specs.Cuts.{falls}
 use Rattle.layout.proofs.Cuts.{came, none, further}
 use Rattle.layout.proofs.Tails.{tail_few, tail_names, tail_hyps, tail_cuts}
-use borrow.Author.Rules.{rules}
 use Rattle.layout.proofs.whole.after_tail.Goals as goal
 
 pub overflow_sub-end : goal.overflow_sub-end

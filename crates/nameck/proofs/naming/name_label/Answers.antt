@@ -30,7 +30,7 @@ pub overflow_add-at : goal.overflow_add-at
 overflow_add-at c = let k = some_label c.statement.ensures c.statement-2.ensures c.statement-3.ensures (λ z. omega (arith, c.if-work-statement-lt4.false)) c.requires in omega (arith, k.order, k.fits, k.spans.short)
 
 pub note-requires : goal.note-requires
-note-requires c =     let k = label_atom c.statement.ensures c.statement-2.ensures c.statement-3.ensures (λ z. omega (arith, c.if-work-statement-lt4.false)) c.requires c.intern-got.ensures in
+note-requires c = let k = label_atom c.statement.ensures c.statement-2.ensures c.statement-3.ensures (λ z. omega (arith, c.if-work-statement-lt4.false)) c.requires c.intern-got.ensures in
     simp length-set (omega (arith, k, c.symbol.ensures, c.requires.holds.progress.spans.room, c.intern-got.auto.work))
 
 pub shape_of-work : goal.shape_of-work

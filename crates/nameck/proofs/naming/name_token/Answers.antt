@@ -39,7 +39,7 @@ pub overflow_cast-at-2 : goal.overflow_cast-at-2
 overflow_cast-at-2 c = omega (arith, some_early c.math.ensures c.requires.1)
 
 pub note_global-requires : goal.note_global-requires
-note_global-requires c =     let a = token_atom c.math.ensures c.hash_token-x.ensures c.requires.1 c.intern-got.ensures in
+note_global-requires c = let a = token_atom c.math.ensures c.hash_token-x.ensures c.requires.1 c.intern-got.ensures in
     let h = c.requires.1.holds in
     (omega (arith, h.progress.spans.small), a, simp length-set (omega (arith, h.progress.spans.room, c.intern-got.auto.work)), h.kind, some_early c.math.ensures c.requires.1)
 

@@ -1,5 +1,4 @@
 use mathlib.Core.Path.{sym, ◌∙◌}
-use borrow.Author.Tests.{not-true, not-false}
 use Rattle.reader.proofs.Dollars.{closes_none, closes_some}
 use borrow.Author.Rules.{rules}
 use Rattle.reader.proofs.comment.closes_at.Goals as goal

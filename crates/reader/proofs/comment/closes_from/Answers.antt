@@ -1,7 +1,5 @@
-use mathlib.Core.Path.{◌≡◌, refl, sym, ap, ◌∙◌}
-use Prim.Native.Nat.{◌-◌, ◌≤◌}
-use lib.ListN.{length}
-use Rattle.reader.specs.Dollar.{seek, found}
+use mathlib.Core.Path.{refl, sym, ap, ◌∙◌}
+use Rattle.reader.specs.Dollar.{found}
 use Rattle.reader.proofs.Dollars.{loop_none, loop_some, loop_on}
 use borrow.Author.Rules.{rules}
 use Rattle.reader.proofs.comment.closes_from.Goals as goal

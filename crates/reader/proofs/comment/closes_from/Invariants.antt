@@ -1,9 +1,7 @@
-use mathlib.Core.Path.{◌≡◌, refl, sym, ap, ◌∙◌}
+use mathlib.Core.Path.{◌≡◌}
 use Prim.Native.Nat.{◌-◌, ◌≤◌}
 use lib.ListN.{length}
-use Rattle.reader.specs.Dollar.{seek, found}
-use Rattle.reader.proofs.Dollars.{loop_none, loop_some, loop_on}
-use borrow.Author.Rules.{rules}
+use Rattle.reader.specs.Dollar.{seek}
 use Rattle.reader.proofs.comment.closes_from.Given as goal
 
 abbrev pub invariant-loop-at : goal.invariant-loop-at

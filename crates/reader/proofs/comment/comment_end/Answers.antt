@@ -1,6 +1,5 @@
 use mathlib.Core.Path.{sym, ◌∙◌}
 use native.Mathlib.Omega.{arith}
-use borrow.Author.Tests.{not-true, not-false}
 use Rattle.reader.proofs.Marks.{closes_within, comment_unmarked, comment_closed, comment_never, comment_bad}
 use borrow.Author.Rules.{rules}
 use Rattle.reader.proofs.comment.comment_end.Goals as goal

@@ -1,7 +1,4 @@
-use mathlib.Core.Logic.{◌≢◌}
-use Prim.Native.Nat.{ℕ, ◌-◌, ◌<◌, ◌≤◌}
 use native.Mathlib.Omega.{arith}
-use lib.ListN.{length, get_or}
 use Rattle.reader.proofs.Dollars.{plain_more}
 use borrow.Author.Rules.{rules}
 use Rattle.reader.proofs.comment.next_dollar.Goals as goal

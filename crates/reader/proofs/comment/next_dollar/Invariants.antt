@@ -1,9 +1,6 @@
 use mathlib.Core.Logic.{◌≢◌}
 use Prim.Native.Nat.{ℕ, ◌-◌, ◌<◌, ◌≤◌}
-use native.Mathlib.Omega.{arith}
 use lib.ListN.{length, get_or}
-use Rattle.reader.proofs.Dollars.{plain_more}
-use borrow.Author.Rules.{rules}
 use Rattle.reader.proofs.comment.next_dollar.Given as goal
 
 abbrev pub invariant-loop-i : goal.invariant-loop-i

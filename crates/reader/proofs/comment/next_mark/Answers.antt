@@ -1,9 +1,5 @@
-use mathlib.Core.Path.{◌≡◌, sym, ◌∙◌}
-use mathlib.Core.Bool.{false}
-use Prim.Native.Nat.{ℕ, ◌-◌, ◌<◌, ◌≤◌}
+use mathlib.Core.Path.{sym, ◌∙◌}
 use native.Mathlib.Omega.{arith}
-use lib.ListN.{length, drop}
-use Rattle.reader.specs.Dollar.{mark_first}
 use Rattle.reader.proofs.Marks.{mark_end, mark_here, mark_next}
 use borrow.Author.Rules.{rules}
 use Rattle.reader.proofs.comment.next_mark.Goals as goal

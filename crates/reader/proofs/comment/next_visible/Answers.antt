@@ -1,10 +1,4 @@
-use mathlib.Core.List.{[]}
-use Prim.Native.Nat.{◌≤◌}
 use native.Mathlib.Omega.{arith}
-use lib.ListN.{length}
-use Rattle.paper.specs.Comments.{outside}
-use Rattle.token.specs.Words.{tokens_from, Lined}
-use Rattle.reader.specs.Passed.{Passed}
 use Rattle.reader.proofs.Passes.{passed_none, passed_then, shows_after}
 use Rattle.reader.proofs.Looks.{refuses_after}
 use borrow.Author.Rules.{rules}

@@ -3,7 +3,6 @@ use Prim.Native.Nat.{ℕ}
 use lib.Dec.{eqb}
 use Rattle.token.proofs.Classes.{class_white}
 use Rattle.reader.proofs.Dollars.{opens_same, opens_other}
-use borrow.Author.Rules.{rules}
 use Rattle.reader.proofs.comment.opens_here.Goals as goal
 
 pub returns-then-i-at : goal.returns-then-i-at

@@ -1,13 +1,8 @@
 use Prim.Native.Nat.{ℕ, ◌<◌, ◌≤◌}
-use native.Mathlib.Omega.{arith}
-use native.Mathlib.Nat.{le_refl}
 use mathlib.Core.Path.{◌≡◌}
 use mathlib.Core.Bool.{false}
 use lib.ListN.{get_or}
 use Rattle.paper.specs.Bytes.{white}
-use Rattle.token.proofs.Classes.{is_white, not_white}
-use Rattle.reader.proofs.Hops.{inside_more}
-use borrow.Author.Rules.{rules}
 use Rattle.reader.proofs.comment.start_of.Given as goal
 
 abbrev pub invariant-loop-i : goal.invariant-loop-i

@@ -1,9 +1,4 @@
-use mathlib.Core.Path.{◌≡◌}
-use Prim.Native.Nat.{suc, ◌-◌}
-use native.Mathlib.Omega.{arith}
 use Rattle.reader.specs.Ends.{Backward}
-use Rattle.reader.proofs.Backs.{back_start, back_room, back_step, back_end}
-use borrow.Author.Rules.{rules}
 use Rattle.reader.proofs.end.set_ends.Given as goal
 
 abbrev pub invariant-loop-j : goal.invariant-loop-j

@@ -1,5 +1,4 @@
 use Rattle.reader.proofs.Backs.{top_none, top_some}
-use borrow.Author.Rules.{rules}
 use Rattle.reader.proofs.end.top_end.Goals as goal
 
 pub returns-then-depth-eq0 : goal.returns-then-depth-eq0

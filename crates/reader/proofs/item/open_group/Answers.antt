@@ -1,5 +1,4 @@
 use mathlib.Core.Path.{refl}
-use borrow.Author.Rules.{rules}
 use Rattle.reader.proofs.item.open_group.Goals as goal
 
 pub returns : goal.returns

@@ -1,6 +1,5 @@
 use mathlib.Core.Path.{refl}
 use Rattle.reader.proofs.Items.{taken}
-use borrow.Author.Rules.{rules}
 use Rattle.reader.proofs.item.read_one.Goals as goal
 
 pub next_visible-requires : goal.next_visible-requires

@@ -1,6 +1,5 @@
 use mathlib.Core.Path.{sym, ◌∙◌}
 use Rattle.reader.proofs.Bodies.{proof_refused, proof_room, proof_held}
-use borrow.Author.Rules.{rules}
 use Rattle.reader.proofs.item.read_rest.Goals as goal
 
 pub read_proof-proof-requires : goal.read_proof-proof-requires

@@ -1,6 +1,5 @@
 use mathlib.Core.Path.{sym, ◌∙◌}
 use Rattle.paper.specs.Tokens.{key}
-use borrow.Author.Rules.{rules}
 use Rattle.reader.proofs.kind.label_code.Goals as goal
 
 pub returns-then-is_key : goal.returns-then-is_key

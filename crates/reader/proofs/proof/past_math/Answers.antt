@@ -1,6 +1,5 @@
 use native.Mathlib.Omega.{arith}
 use Rattle.reader.proofs.Hops.{hopped}
-use borrow.Author.Rules.{rules}
 use Rattle.reader.proofs.proof.past_math.Goals as goal
 
 pub hop-requires : goal.hop-requires

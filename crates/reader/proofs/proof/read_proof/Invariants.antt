@@ -1,12 +1,6 @@
-use native.Mathlib.Omega.{arith}
 use lib.ListN.{length}
-use borrow.Author.Tests.{le-leb}
 use Rattle.token.specs.Words.{tokens_from, Lined}
-use Rattle.reader.specs.Passed.{Shows}
 use Rattle.reader.specs.Runs.{Proving}
-use Rattle.reader.proofs.Passes.{passed_few, shows_within}
-use Rattle.reader.proofs.Runs.{proving_start, proving_more, proving_on, not_token, not_math}
-use borrow.Author.Rules.{rules}
 use Rattle.reader.proofs.proof.read_proof.Given as goal
 
 abbrev pub invariant-loop-x : goal.invariant-loop-x

@@ -1,30 +1,21 @@
 use mathlib.Core.Path.{sym, ◌∙◌}
 use native.Mathlib.Omega.{arith}
-use borrow.Author.Tests.{lt-leb, le-leb, not-true, not-false}
-use Rattle.reader.specs.Passed.{Shows}
+use borrow.Author.Tests.{lt-leb, le-leb}
 use Rattle.reader.proofs.Runs.{and_right}
-use borrow.Author.Rules.{rules}
-use Rattle.reader.proofs.run.close_run.Goals.{In-Token}
+use Rattle.reader.proofs.Looks.{shown}
 use Rattle.reader.proofs.run.close_run.Goals as goal
-
--- own --
-shows : (c : In-Token) → Shows c.before.before.before.before.args.text.now c.before.before.before.before.args.run.stop.at c.before.after2.given.0.0 c.before.after2.given.0.1.0
-shows c = rw c.in-Token.is at c.requires
-
--- end own --
--- end own --
 
 pub returns-then-run-least : goal.returns-then-run-least
 returns-then-run-least c = rw (c.in-Token.is, and_right _ _ (lt-leb _ _ c.if-run-least.true))
 
 pub slice_bounds-is_key-count : goal.slice_bounds-is_key-count
-slice_bounds-is_key-count c = omega (arith, (shows c.before.before).whole.some)
+slice_bounds-is_key-count c = omega (arith, (shown c.in-Token.is c.requires).whole.some)
 
 pub slice_bounds-is_key-start : goal.slice_bounds-is_key-start
-slice_bounds-is_key-start c = omega (arith, (shows c.before.before).whole.some)
+slice_bounds-is_key-start c = omega (arith, (shown c.in-Token.is c.requires).whole.some)
 
 pub slice_bounds-is_key-end : goal.slice_bounds-is_key-end
-slice_bounds-is_key-end c = omega (arith, (shows c.before.before).whole.within)
+slice_bounds-is_key-end c = omega (arith, (shown c.in-Token.is c.requires).whole.within)
 
 pub returns-then-not-is_key : goal.returns-then-not-is_key
 returns-then-not-is_key c = rw (c.in-Token.is, sym c.is_key.ensures ∙ c.if-not-is_key.true)

@@ -2,7 +2,6 @@ use mathlib.Core.Path.{refl}
 use native.Mathlib.Omega.{arith}
 use lib.ListN.{length-set}
 use Rattle.reader.proofs.Stores.{row_sets}
-use borrow.Author.Rules.{rules}
 use Rattle.reader.proofs.state.keep.Goals as goal
 
 pub bounds-work-at_cell : goal.bounds-work-at_cell

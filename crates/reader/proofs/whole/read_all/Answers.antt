@@ -1,9 +1,5 @@
-use mathlib.Core.Path.{◌≡◌, refl, ◌∙◌}
-use lib.ListN.{length}
-use Rattle.token.specs.Words.{tokens_from}
-use Rattle.reader.specs.Held.{Held}
+use mathlib.Core.Path.{refl, ◌∙◌}
 use Rattle.reader.proofs.Wholes.{held_start, all_open, all_done}
-use borrow.Author.Rules.{rules}
 use Rattle.reader.proofs.whole.read_all.Goals as goal
 
 pub loop-r-init : goal.loop-r-init

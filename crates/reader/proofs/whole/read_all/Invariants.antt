@@ -1,9 +1,7 @@
-use mathlib.Core.Path.{◌≡◌, refl, ◌∙◌}
+use mathlib.Core.Path.{◌≡◌}
 use lib.ListN.{length}
 use Rattle.token.specs.Words.{tokens_from}
 use Rattle.reader.specs.Held.{Held}
-use Rattle.reader.proofs.Wholes.{held_start, all_open, all_done}
-use borrow.Author.Rules.{rules}
 use Rattle.reader.proofs.whole.read_all.Given as goal
 
 abbrev pub invariant-loop-r : goal.invariant-loop-r

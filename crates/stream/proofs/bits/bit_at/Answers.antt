@@ -1,7 +1,6 @@
 use mathlib.Core.Path.{refl, sym}
 use Rattle.stream.specs.Bits.{bit_at, lit}
 use Rattle.stream.proofs.Bit.{bit_off}
-use borrow.Author.Rules.{rules}
 use Rattle.stream.proofs.bits.bit_at.Goals as goal
 
 pub returns-then-bytes-i : goal.returns-then-bytes-i

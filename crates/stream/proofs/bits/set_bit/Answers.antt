@@ -1,6 +1,4 @@
 use mathlib.Core.Path.{sym, ◌∙◌}
-use Prim.Native.Nat.{◌+◌, ◌/◌}
-use native.Mathlib.Omega.{arith}
 use Rattle.stream.proofs.Bit.{with_off, with_old, with_new, bit_room}
 use borrow.Author.Rules.{rules}
 use Rattle.stream.proofs.bits.set_bit.Goals as goal
@@ -9,7 +7,7 @@ pub returns-then-bit_at : goal.returns-then-bit_at
 returns-then-bit_at c = sym (with_old _ _ _ (sym c.bit_at.ensures ∙ c.if-bit_at.true))
 
 pub overflow_add-bytes : goal.overflow_add-bytes
-overflow_add-bytes c = record { fits = bit_room _ _ _ (sym c.bit_at.ensures ∙ c.if-bit_at.false) (omega (arith, c.slice_known-then-i-bytes-1.given (c.args.at + c.args.j / 8))) }
+overflow_add-bytes c = record { fits = bit_room _ _ _ (sym c.bit_at.ensures ∙ c.if-bit_at.false) (search rules) }
 
 pub returns-then-i-bytes : goal.returns-then-i-bytes
 returns-then-i-bytes c = sym (with_new _ _ _ (sym c.bit_at.ensures ∙ c.if-bit_at.false))

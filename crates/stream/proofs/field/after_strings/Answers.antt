@@ -1,7 +1,5 @@
-use mathlib.Core.Path.{◌≡◌, refl, ◌∙◌}
-use Prim.Native.Nat.{◌≤◌}
+use mathlib.Core.Path.{refl, ◌∙◌}
 use native.Mathlib.Omega.{arith}
-use Rattle.stream.specs.Fields.{after_strings}
 use Rattle.stream.proofs.Fields.{strings_none, strings_short, strings_long, strings_more}
 use borrow.Author.Rules.{rules}
 use Rattle.stream.proofs.field.after_strings.Goals as goal

@@ -1,9 +1,6 @@
-use mathlib.Core.Path.{◌≡◌, refl, ◌∙◌}
+use mathlib.Core.Path.{◌≡◌}
 use Prim.Native.Nat.{◌≤◌}
-use native.Mathlib.Omega.{arith}
 use Rattle.stream.specs.Fields.{after_strings}
-use Rattle.stream.proofs.Fields.{strings_none, strings_short, strings_long, strings_more}
-use borrow.Author.Rules.{rules}
 use Rattle.stream.proofs.field.after_strings.Given as goal
 
 abbrev pub invariant-loop-left : goal.invariant-loop-left

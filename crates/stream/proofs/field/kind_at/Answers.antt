@@ -1,6 +1,5 @@
 use mathlib.Core.Path.{sym, ◌∙◌}
 use Rattle.stream.specs.Fields.{kind_at}
-use borrow.Author.Rules.{rules}
 use Rattle.stream.proofs.field.kind_at.Goals as goal
 
 pub returns-in-Well : goal.returns-in-Well

@@ -2,7 +2,6 @@ use mathlib.Core.Path.{refl}
 use native.Mathlib.Omega.{arith}
 use Rattle.paper.specs.Records.{diag_record, framed, u16, u32, le}
 use Rattle.stream.proofs.Wrote.{wrote_then, wrote_skip}
-use borrow.Author.Rules.{rules}
 use Rattle.stream.proofs.record.put_diag.Goals as goal
 
 pub returns-then-out-end : goal.returns-then-out-end

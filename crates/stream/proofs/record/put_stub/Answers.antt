@@ -1,7 +1,6 @@
 use native.Mathlib.Omega.{arith}
 use Rattle.stream.proofs.Wrote.{wrote_then}
 use Rattle.stream.proofs.Records.{wrote_stub}
-use borrow.Author.Rules.{rules}
 use Rattle.stream.proofs.record.put_stub.Goals as goal
 
 pub returns : goal.returns

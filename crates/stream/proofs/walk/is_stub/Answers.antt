@@ -1,8 +1,5 @@
-use mathlib.Core.Path.{◌≡◌, refl, ◌∙◌}
-use Prim.Native.Nat.{◌-◌}
+use mathlib.Core.Path.{refl, ◌∙◌}
 use native.Mathlib.Omega.{arith}
-use lib.ListN.{length, drop}
-use Rattle.paper.specs.Lookup.{stub_string}
 use Rattle.stream.proofs.Stubs.{stub_first, stub_low, stub_none}
 use borrow.Author.Rules.{rules}
 use Rattle.stream.proofs.walk.is_stub.Goals as goal

@@ -1,10 +1,7 @@
-use mathlib.Core.Path.{◌≡◌, refl, ◌∙◌}
+use mathlib.Core.Path.{◌≡◌}
 use Prim.Native.Nat.{◌-◌}
-use native.Mathlib.Omega.{arith}
 use lib.ListN.{length, drop}
 use Rattle.paper.specs.Lookup.{stub_string}
-use Rattle.stream.proofs.Stubs.{stub_first, stub_low, stub_none}
-use borrow.Author.Rules.{rules}
 use Rattle.stream.proofs.walk.is_stub.Given as goal
 
 abbrev pub invariant-loop-i : goal.invariant-loop-i

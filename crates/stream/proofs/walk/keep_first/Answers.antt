@@ -1,5 +1,4 @@
 use mathlib.Core.Path.{sym, ◌∙◌}
-use borrow.Author.Rules.{rules}
 use Rattle.stream.proofs.walk.keep_first.Goals as goal
 
 pub returns-then-same : goal.returns-then-same

@@ -1,8 +1,6 @@
 use mathlib.Core.Path.{sym, ◌∙◌}
 use native.Mathlib.Omega.{arith}
-use borrow.Author.Tests.{not-true, not-false}
 use Rattle.stream.proofs.Framing.{no_place, no_length, no_label, no_stub, well}
-use borrow.Author.Rules.{rules}
 use Rattle.stream.proofs.walk.label_in.Goals as goal
 
 pub returns-then-place-eq0 : goal.returns-then-place-eq0

@@ -1,15 +1,8 @@
 use mathlib.Core.Path.{sym, ◌∙◌}
-use Prim.Native.Nat.{◌-◌}
 use native.Mathlib.Omega.{arith}
-use lib.ListN.{length}
-use Rattle.stream.proofs.Search.{Walked, Stands, stands, walk_start, walk_bad, walk_step, walk_end}
+use Rattle.stream.proofs.Search.{stands, walk_start, walk_bad, walk_step, walk_end}
 use borrow.Author.Rules.{rules}
-use Rattle.stream.proofs.walk.lookup.Goals.{In-Well}
 use Rattle.stream.proofs.walk.lookup.Goals as goal
-
--- the record that the walk stands at
-stood : (c : In-Well) → Stands c.before.before.before.before.before.before.before.before.args.frames.now c.before.before.before.before.before.loop.at c.before.r.given.0.0
-stood c = stands _ _ _ (sym c.record_at.ensures ∙ c.in-Well.is)
 
 pub loop-at-init : goal.loop-at-init
 loop-at-init c = walk_start _ _
@@ -18,16 +11,16 @@ pub returns-in_default : goal.returns-in_default
 returns-in_default c = walk_bad c.loop-at.invariant (search rules) (sym c.record_at.ensures ∙ c.in_default.is)
 
 pub slice_bounds-keep_first-count : goal.slice_bounds-keep_first-count
-slice_bounds-keep_first-count c = (stood c).label
+slice_bounds-keep_first-count c = (stands _ _ _ (sym c.record_at.ensures ∙ c.in-Well.is)).label
 
 pub slice_bounds-keep_first-start : goal.slice_bounds-keep_first-start
-slice_bounds-keep_first-start c = omega (arith, (stood c).label, (stood c).stop, (stood c).within)
+slice_bounds-keep_first-start c = omega (arith, (stands _ _ _ (sym c.record_at.ensures ∙ c.in-Well.is)).label, (stands _ _ _ (sym c.record_at.ensures ∙ c.in-Well.is)).stop, (stands _ _ _ (sym c.record_at.ensures ∙ c.in-Well.is)).within)
 
 pub slice_bounds-keep_first-end : goal.slice_bounds-keep_first-end
-slice_bounds-keep_first-end c = omega (arith, (stood c).stop, (stood c).within)
+slice_bounds-keep_first-end c = omega (arith, (stands _ _ _ (sym c.record_at.ensures ∙ c.in-Well.is)).stop, (stands _ _ _ (sym c.record_at.ensures ∙ c.in-Well.is)).within)
 
 pub loop-at-smaller : goal.loop-at-smaller
-loop-at-smaller c = omega (arith, (stood c.before.before).after, (stood c.before.before).within)
+loop-at-smaller c = omega (arith, (stands _ _ _ (sym c.record_at.ensures ∙ c.in-Well.is)).after, (stands _ _ _ (sym c.record_at.ensures ∙ c.in-Well.is)).within)
 
 pub loop-at-preserved : goal.loop-at-preserved
 loop-at-preserved c = walk_step c.loop-at.invariant (search rules) (sym c.record_at.ensures ∙ c.in-Well.is) c.keep_first-found.ensures

@@ -1,9 +1,6 @@
-use mathlib.Core.Path.{sym, ◌∙◌}
 use Prim.Native.Nat.{◌-◌}
-use native.Mathlib.Omega.{arith}
 use lib.ListN.{length}
-use Rattle.stream.proofs.Search.{Walked, Stands, stands, walk_start, walk_bad, walk_step, walk_end}
-use borrow.Author.Rules.{rules}
+use Rattle.stream.proofs.Search.{Walked}
 use Rattle.stream.proofs.walk.lookup.Given as goal
 
 abbrev pub invariant-loop-at : goal.invariant-loop-at

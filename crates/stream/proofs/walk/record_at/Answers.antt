@@ -1,7 +1,6 @@
 use mathlib.Core.Path.{◌∙◌}
 use native.Mathlib.Omega.{arith}
 use Rattle.stream.proofs.Framing.{no_record, too_short, too_long, in_kind}
-use borrow.Author.Rules.{rules}
 use Rattle.stream.proofs.walk.record_at.Goals as goal
 
 pub returns-then-bytes-at : goal.returns-then-bytes-at

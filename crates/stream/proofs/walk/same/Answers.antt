@@ -1,8 +1,5 @@
-use mathlib.Core.Path.{◌≡◌, sym, ◌∙◌}
-use Prim.Native.Nat.{◌-◌, ◌≤◌}
+use mathlib.Core.Path.{sym, ◌∙◌}
 use native.Mathlib.Omega.{arith}
-use lib.ListN.{length}
-use Rattle.paper.specs.Base.{sameb}
 use Rattle.stream.proofs.Compare as compare
 use borrow.Author.Rules.{rules}
 use Rattle.stream.proofs.walk.same.Goals as goal

@@ -1,10 +1,8 @@
-use mathlib.Core.Path.{◌≡◌, sym, ◌∙◌}
+use mathlib.Core.Path.{◌≡◌}
 use Prim.Native.Nat.{◌-◌, ◌≤◌}
-use native.Mathlib.Omega.{arith}
 use lib.ListN.{length}
 use Rattle.paper.specs.Base.{sameb}
 use Rattle.stream.proofs.Compare as compare
-use borrow.Author.Rules.{rules}
 use Rattle.stream.proofs.walk.same.Given as goal
 
 abbrev pub invariant-loop-i : goal.invariant-loop-i

@@ -1,7 +1,6 @@
 use mathlib.Core.Path.{◌∙◌}
 use native.Mathlib.Omega.{arith}
 use Rattle.stream.proofs.Stubs.{after_short, after_over, after_string}
-use borrow.Author.Rules.{rules}
 use Rattle.stream.proofs.walk.stub_after.Goals as goal
 
 pub returns-then-end-from-lt4 : goal.returns-then-end-from-lt4

@@ -1,7 +1,6 @@
 use mathlib.Core.Path.{◌∙◌}
 use native.Mathlib.Omega.{arith}
 use Rattle.stream.proofs.Stubs.{at_short, at_over, at_string}
-use borrow.Author.Rules.{rules}
 use Rattle.stream.proofs.walk.stub_at.Goals as goal
 
 pub returns-then-end-from-lt4 : goal.returns-then-end-from-lt4

@@ -1,6 +1,5 @@
 use mathlib.Core.Path.{◌∙◌}
 use Rattle.stream.proofs.Stubs.{if_old, if_other}
-use borrow.Author.Rules.{rules}
 use Rattle.stream.proofs.walk.stub_if.Goals as goal
 
 pub returns-then-kind-eq1 : goal.returns-then-kind-eq1

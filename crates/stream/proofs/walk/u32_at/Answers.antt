@@ -1,6 +1,5 @@
 use native.Mathlib.Omega.{arith}
 use Rattle.paper.specs.Lookup.{u32_at}
-use borrow.Author.Rules.{rules}
 use Rattle.stream.proofs.walk.u32_at.Goals as goal
 
 pub returns : goal.returns

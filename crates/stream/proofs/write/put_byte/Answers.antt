@@ -1,7 +1,6 @@
 use mathlib.Core.Path.{refl}
 use native.Mathlib.Omega.{arith}
 use Rattle.stream.proofs.Wrote.{wrote_set, wrote_skip}
-use borrow.Author.Rules.{rules}
 use Rattle.stream.proofs.write.put_byte.Goals as goal
 
 pub returns-then-out-end : goal.returns-then-out-end

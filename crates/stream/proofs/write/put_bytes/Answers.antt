@@ -1,8 +1,5 @@
 use mathlib.Core.Path.{refl}
-use Prim.Native.Nat.{◌+◌, ◌-◌, ◌≤◌}
 use native.Mathlib.Omega.{arith}
-use lib.ListN.{length, take}
-use Rattle.stream.specs.Wrote.{Wrote}
 use Rattle.stream.proofs.Wrote.{wrote_none, wrote_skip, wrote_more, wrote_all, wrote_to}
 use borrow.Author.Rules.{rules}
 use Rattle.stream.proofs.write.put_bytes.Goals as goal

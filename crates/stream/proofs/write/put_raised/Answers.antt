@@ -4,7 +4,6 @@ use native.Mathlib.Omega.{arith}
 use lib.ListN.{length, get_or, length-take}
 use Rattle.stream.proofs.Wrote.{wrote_none, wrote_then, wrote_as}
 use Rattle.stream.proofs.Raised.{raised_none, raised_last}
-use borrow.Author.Rules.{rules}
 use Rattle.stream.proofs.write.put_raised.Goals as goal
 
 pub returns-then-n-eq0 : goal.returns-then-n-eq0

@@ -1,7 +1,6 @@
 use native.Mathlib.Omega.{arith}
 use Rattle.paper.specs.Records.{string}
 use Rattle.stream.proofs.Wrote.{wrote_then}
-use borrow.Author.Rules.{rules}
 use Rattle.stream.proofs.write.put_string.Goals as goal
 
 pub returns : goal.returns

@@ -4,7 +4,6 @@ use native.Mathlib.Omega.{arith}
 use lib.ListN.{length-set}
 use Rattle.paper.specs.Records.{le, u32}
 use Rattle.stream.proofs.Wrote.{wrote_set, wrote_next, wrote_skip, wrote_to}
-use borrow.Author.Rules.{rules}
 use Rattle.stream.proofs.write.put_u32.Goals as goal
 
 pub returns-then-out-end : goal.returns-then-out-end

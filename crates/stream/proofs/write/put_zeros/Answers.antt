@@ -1,8 +1,7 @@
 use mathlib.Core.Path.{refl}
-use Prim.Native.Nat.{ℕ, ◌+◌, ◌-◌, ◌<◌, ◌≤◌}
+use Prim.Native.Nat.{ℕ, ◌<◌}
 use native.Mathlib.Omega.{arith}
-use lib.ListN.{take, replicate, length-replicate, get_or-replicate}
-use Rattle.stream.specs.Wrote.{Wrote}
+use lib.ListN.{replicate, length-replicate, get_or-replicate}
 use Rattle.stream.proofs.Wrote.{wrote_none, wrote_skip, wrote_more, wrote_all, wrote_to}
 use borrow.Author.Rules.{rules}
 use Rattle.stream.proofs.write.put_zeros.Goals as goal

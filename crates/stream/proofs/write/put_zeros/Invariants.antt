@@ -1,10 +1,6 @@
-use mathlib.Core.Path.{refl}
-use Prim.Native.Nat.{ℕ, ◌+◌, ◌-◌, ◌<◌, ◌≤◌}
-use native.Mathlib.Omega.{arith}
-use lib.ListN.{take, replicate, length-replicate, get_or-replicate}
+use Prim.Native.Nat.{◌+◌, ◌-◌, ◌≤◌}
+use lib.ListN.{take, replicate}
 use Rattle.stream.specs.Wrote.{Wrote}
-use Rattle.stream.proofs.Wrote.{wrote_none, wrote_skip, wrote_more, wrote_all, wrote_to}
-use borrow.Author.Rules.{rules}
 use Rattle.stream.proofs.write.put_zeros.Given as goal
 
 abbrev pub invariant-loop-i : goal.invariant-loop-i

@@ -17,5 +17,5 @@ pub loop-i-preserved : goal.loop-i-preserved
 loop-i-preserved c = (search rules, search rules, omega (arith, c.feed_bit.ensures.1), omega (arith, c.feed_bit.ensures.0, c.loop-i.invariant.3, line_step c.args.text.now c.loop-i.i (search rules)))
 
 pub returns : goal.returns
-returns c =     let e : c.loop-i.i ≡ c.args.to = search rules in
+returns c = let e : c.loop-i.i ≡ c.args.to = search rules in
     (c.loop-i.invariant.3 ∙ ap (line_at c.args.text.now) e, search rules)

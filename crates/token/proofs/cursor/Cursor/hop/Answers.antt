@@ -16,5 +16,5 @@ pub loop-at-preserved : goal.loop-at-preserved
 loop-at-preserved c = (search rules, rw c.loop-at.invariant.1 c.feeds_between.ensures.0)
 
 pub returns : goal.returns
-returns c =     let e : c.loop-at.at ≡ c.args.to = search rules in
+returns c = let e : c.loop-at.at ≡ c.args.to = search rules in
     (refl, c.loop-at.invariant.1 ∙ ap (line_at c.args.text.now) e)
