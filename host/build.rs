@@ -1,4 +1,4 @@
-//! Links the archive that `rt staticlib capi` writes.
+//! Links the archive that `tools/archive capi` writes.
 
 use std::path::Path;
 
@@ -7,7 +7,7 @@ fn main() {
     let folder = root.join("target/staticlib");
     assert!(
         folder.join("libcapi.a").exists(),
-        "target/staticlib/libcapi.a is not there: run `rt staticlib capi` first"
+        "target/staticlib/libcapi.a is not there: run `tools/archive capi` first"
     );
     println!("cargo:rustc-link-search=native={}", folder.display());
     println!("cargo:rustc-link-lib=static=capi");

@@ -1,5 +1,5 @@
 /* The scope checker as a C library (x86-64 Linux). After `make install`, `pkg-config --cflags --libs janorembe` says how to build with it;
- * without, link target/staticlib/libcapi.a, which `rt staticlib capi` writes. docs/FORMATS.md has every record of both streams to the byte.
+ * without, link target/staticlib/libcapi.a, which `tools/archive capi` writes. docs/FORMATS.md has every record of both streams to the byte.
  * The functions are total: any bytes and any lengths get an answer. They allocate nothing and keep nothing between
  * calls, so threads may call them at the same time over buffers of their own. */
 #ifndef JANOREMBE_H

@@ -29,7 +29,7 @@ def database(folder, name):
 def built():
     """The path of the program `on-file`, built for release over the proved archive."""
     if not (ROOT / "target/staticlib/libcapi.a").exists():
-        sys.exit("target/staticlib/libcapi.a is not there: run `rt staticlib capi` first")
+        sys.exit("target/staticlib/libcapi.a is not there: run `tools/archive capi` first")
     done = subprocess.run(["cargo", "build", "--release", "--offline", "--quiet"], cwd=ROOT / "host")
     if done.returncode:
         sys.exit("cargo could not build host/")

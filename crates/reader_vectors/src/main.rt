@@ -6,6 +6,8 @@
 ghost use Rattle.std.specs.Prelude.{◌≤◌, ◌<◌, length};
 
 use paper::{Reading, Refusal};
+use std::fs::File;
+use std::os::fd::AsRawFd;
 use stream::walk::u16_at;
 
 fn write_two(a: u64, b: u64) {
@@ -102,11 +104,12 @@ fn run(cases: &[u8], work: &mut [u32]) {
     }
 }
 
-fn main() {
-    let fd = os::open_read(b"cases");
+fn main(rt: HostRuntime) {
     let mut input = io::large_buffer();
-    let n = io::read_full(fd, &mut input);
-    libc::close(fd);
+    let n = match File::open(&rt, "cases") {
+        Ok(file) => io::read_full(file.as_raw_fd(), &mut input),
+        Err(_) => 0,
+    };
     let mut work = [7u32; 65536];
     run(&input[..n], &mut work);
 }
