@@ -23,7 +23,7 @@ use Rattle.theorems.proofs.Unique.{unique_measure, unique}
 use Rattle.theorems.proofs.Measured.{measured_fits}
 use Rattle.theorems.proofs.Demand3.{demand3}
 use Rattle.theorems.proofs.Later.{later}
-use Rattle.catalogue.specs.Promise.{Measures, Writes}
+use Rattle.catalogue.specs.Promise.{Writes}
 use Rattle.catalogue.specs.Corollaries.{ended, OneMeasure, OneResult, OneFound, WritesAsMeasured, Holds, TablesHold, HoldsMeasure, MeasureTablesHold, GroupTakenOut, LaterUndisturbed}
 
 -- ---- one result

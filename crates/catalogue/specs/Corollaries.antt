@@ -11,7 +11,7 @@ use Rattle.paper.specs.declared.Answer.{Answer}
 use Rattle.paper.specs.declared.Answer.TheVariants.{Done, Refused}
 use Rattle.paper.specs.declared.Found.{Found}
 use Rattle.paper.proofs.Alls.{All}
-use Rattle.paper.proofs.Table.{lent, Result, result, Case, ◌gives◌, expected, computed_as}
+use Rattle.paper.proofs.Table.{lent, result, Case, ◌gives◌, expected, computed_as}
 use Rattle.paper.proofs.Measures as measures
 use Rattle.theorems.specs.Groups.{Group, statements, blanked, Apart}
 use Rattle.theorems.specs.TakenOut.{taken_out, records_in}

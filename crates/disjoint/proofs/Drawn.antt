@@ -1,6 +1,6 @@
 -- One pair drawn: its bits are read and set in the rows, and its bytes are written before them.
 -- Assumes nothing.
-use mathlib.Core.Path.{◌≡◌, refl, sym, ap, ◌∙◌}
+use mathlib.Core.Path.{◌≡◌, sym, ap, ◌∙◌}
 use mathlib.Core.Logic.{◌≢◌}
 use mathlib.Core.Bool.{Bool, true, false}
 use mathlib.Core.List.{List, [], ◌∷◌, ◌++◌, append_assoc, append-nil}
@@ -9,7 +9,7 @@ use native.Mathlib.Omega.{arith}
 use lib.Dec.{eqb, ltb}
 use lib.ListN.{length, get_or, set, length-set, length-append}
 use borrow.Author.Tests.{eq-eqb, ne_eqb, lt-ltb, ltb-true}
-use Rattle.paper.specs.Base.{and, not, all, gather}
+use Rattle.paper.specs.Base.{not, all, gather}
 use Rattle.paper.specs.Answer.{laid}
 use Rattle.paper.specs.Pairs.{Pair, pair}
 use Rattle.paper.specs.Records.{pair_bytes, row_bytes, u16}

@@ -12,7 +12,6 @@ use Rattle.paper.specs.Records.{u32, pair_bytes, row_bytes}
 use Rattle.area.specs.Cells.{bucket_cell, word}
 use Rattle.nameck.proofs.Atoms.{atom_below}
 use Rattle.sight.specs.Static.{stack}
-use Rattle.sight.specs.Sums.{sum}
 use Rattle.stream.specs.Wrote.{Wrote}
 use Rattle.stream.proofs.Wrote.{wrote_none, wrote_then, wrote_as, wrote_to}
 use Rattle.stream.proofs.Records.{length_u32}

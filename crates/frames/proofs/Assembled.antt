@@ -9,7 +9,7 @@ use lib.Dec.{ltb}
 use lib.ListN.{length, get_or, drop}
 use Rattle.paper.specs.Base.{sameb, gather}
 use Rattle.paper.specs.Statements.{Statement}
-use Rattle.paper.specs.Variables.{member, index, sights, variables_of, mandatory}
+use Rattle.paper.specs.Variables.{member, index, sights, variables_of}
 use Rattle.paper.specs.Frames.{frame_of}
 use Rattle.paper.specs.Answer.{crowded}
 use Rattle.paper.proofs.Tests.{split}

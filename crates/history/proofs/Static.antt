@@ -11,7 +11,7 @@ use lib.ListN.{drop}
 use Rattle.paper.specs.Tokens.{Token}
 use Rattle.paper.specs.Statements.{Statement}
 use Rattle.paper.specs.Names.{Declared, global}
-use Rattle.paper.specs.State.{Nested, State, view, active_nested, nested_name, nested_of, inactive, constant, variable, by_nested, float_of, sense}
+use Rattle.paper.specs.State.{Nested, State, view, active_nested, nested_name, nested_of, inactive, by_nested, float_of, sense}
 use Rattle.paper.specs.Checks.{Diag, diag, symbol_diags, Verdict, against, record_it, verdict, recorded_by, records, nested_records, each, symbol_token, check_expression}
 use Rattle.paper.specs.Variables.{symbol_of, symbol, formula}
 use Rattle.paper.proofs.Tests.{split, by_option, same_eq}

@@ -3,7 +3,7 @@
 use Rattle.std.specs.Prelude.{◌≡◌, refl, Bool, true, false, List, [], ◌∷◌, ◌++◌, ℕ, zero, suc, ◌+◌, ◌-◌, ◌*◌, ◌/◌, eqb, ltb, length, take, drop}
 use Rattle.std.proofs.Math.Option.{Option, none, some}
 use Rattle.paper.specs.Base.{choose, or, codes, gather}
-use Rattle.paper.specs.Records.{le, u16, u32, string, framed}
+use Rattle.paper.specs.Records.{le, u16, u32, framed}
 use Rattle.paper.specs.Lookup.{u16_at, u32_at, stub_string}
 
 -- the bytes of an offset or an end

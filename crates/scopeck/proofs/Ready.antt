@@ -16,7 +16,7 @@ use Rattle.paper.proofs.Tests.{split, clash}
 use Rattle.paper.proofs.Allowed.{bracket_math}
 use Rattle.area.specs.Cells.{statement_cell, math_cell, word}
 use Rattle.reader.specs.Rows.{kind_number, stmt}
-use Rattle.nameck.specs.Atoms.{atoms, atom_of}
+use Rattle.nameck.specs.Atoms.{atom_of}
 use Rattle.nameck.proofs.Atoms.{label_in, token_in, atom_below, name_of_atom, atom_of_name}
 use Rattle.nameck.proofs.Kept.{math_row}
 use Rattle.token.specs.Words.{move}

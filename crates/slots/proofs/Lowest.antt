@@ -6,19 +6,16 @@ use mathlib.Core.Bool.{Bool, true, false}
 use mathlib.Core.List.{List, [], ◌∷◌, ◌++◌, append-nil}
 use Prim.Native.Nat.{ℕ, zero, suc, ◌+◌, ◌<◌, ◌≤◌}
 use native.Mathlib.Omega.{arith}
-use lib.Dec.{eqb, ltb}
-use lib.ListN.{length}
+use lib.Dec.{ltb}
 use borrow.Author.Tests.{eq-eqb, ne_eqb, ltb-true, ltb-false}
 use Rattle.paper.specs.Base.{keep}
-use Rattle.paper.specs.Statements.{Statement, none_end, outermost}
+use Rattle.paper.specs.Statements.{none_end, outermost}
 use Rattle.paper.proofs.Tests.{split}
 use Rattle.paper.proofs.Lists.{keep_append}
 use Rattle.area.specs.Cells.{statement_cell, word}
 use Rattle.reader.specs.Rows.{stmt}
-use Rattle.facts.specs.Facts.{Facts}
-use Rattle.nameck.specs.Named.{Named}
 use Rattle.sight.specs.Static.{stack}
-use Rattle.slots.specs.Stack.{end_at, row_active, Stack}
+use Rattle.slots.specs.Stack.{end_at}
 use Rattle.slots.specs.Global.{row_outer, GlobalDv}
 
 -- a test that holds of the first r entries and of no other

@@ -3,13 +3,11 @@
 use mathlib.Core.Path.{◌≡◌, refl, sym, ap, ◌∙◌}
 use mathlib.Core.Bool.{Bool}
 use mathlib.Core.List.{List, [], ◌∷◌, ◌++◌, map, append_assoc, append-nil}
-use Prim.Native.Nat.{ℕ, zero, suc, ◌+◌, ◌≤◌}
+use Prim.Native.Nat.{ℕ, zero, suc, ◌≤◌}
 use native.Mathlib.Omega.{arith}
 use lib.ListN.{length, take, length-append}
 use lib.Seq.{take-append_seam}
 use Rattle.paper.specs.Base.{gather}
-use Rattle.paper.specs.State.{State, Formula}
-use Rattle.paper.specs.Statements.{Statement}
 use Rattle.paper.specs.Variables.{member, see, sights, mandatory}
 use Rattle.paper.specs.Pairs.{in_order, apart, row, rows}
 use Rattle.paper.specs.Frames.{Full, full, frame_of, restricted}

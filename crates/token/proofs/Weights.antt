@@ -1,8 +1,7 @@
 -- The pass that counts by weights: while they add up to less than 2^32 no bad byte was met, and the count is that of the tokens.
 -- Assumes nothing.
 use mathlib.Core.Path.{◌≡◌, refl, ap, ◌∙◌}
-use mathlib.Core.Logic.{◌≢◌, ⊎_elim}
-use mathlib.Core.Bool.{true, false}
+use mathlib.Core.Logic.{⊎_elim}
 use mathlib.Core.List.{List}
 use Prim.Native.Nat.{ℕ, ◌+◌, ◌*◌, ◌<◌, ◌≤◌}
 use native.Mathlib.Nat.{eq-or-lt_of_le, not-suc-le-zero}
@@ -14,7 +13,6 @@ use borrow.Author.Tests.{eqb-true}
 use Rattle.paper.proofs.Tests.{split}
 use Rattle.token.specs.Class.{class}
 use Rattle.token.specs.Count.{bit, weight, Weights, tally_of}
-use Rattle.token.specs.declared.count.Tally.{Tally}
 use Rattle.token.proofs.Counts.{Tallied, tally_start, tally_step, tally_end}
 
 -- ---- the weights of the first i bytes are there

@@ -1,5 +1,4 @@
 use Rattle.area.proofs.Laws.{cleared_all}
-use borrow.Author.Rules.{rules}
 use Rattle.area.proofs.clear.Goals as goal
 
 pub returns : goal.returns

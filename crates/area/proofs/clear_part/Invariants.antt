@@ -1,9 +1,5 @@
-use mathlib.Core.Path.{◌≡◌}
 use Prim.Native.Nat.{◌-◌, ◌≤◌}
-use native.Mathlib.Omega.{arith}
 use Rattle.area.specs.Cells.{Cleared}
-use Rattle.area.proofs.Laws.{clear_none, clear_more}
-use borrow.Author.Rules.{rules}
 use Rattle.area.proofs.clear_part.Given as goal
 
 abbrev pub invariant-loop-i : goal.invariant-loop-i

@@ -4,7 +4,6 @@ use lib.ListN.{replicate}
 use Rattle.area.proofs.Laws.{cleared_all}
 use Rattle.fold.proofs.Starts.{read_held}
 use Rattle.catalogue.proofs.Promises.{unmeasured, measured}
-use borrow.Author.Rules.{rules}
 use Rattle.catalogue.proofs.measure.Goals as goal
 
 pub measure_read-needs-requires : goal.measure_read-needs-requires

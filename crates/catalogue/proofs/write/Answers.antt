@@ -3,7 +3,6 @@ use Prim.Native.Nat.{ℕ}
 use lib.ListN.{replicate}
 use Rattle.fold.proofs.Starts.{read_held}
 use Rattle.catalogue.proofs.Promises.{unread, answered}
-use borrow.Author.Rules.{rules}
 use Rattle.catalogue.proofs.write.Goals as goal
 
 pub answer_read-answer-requires : goal.answer_read-answer-requires

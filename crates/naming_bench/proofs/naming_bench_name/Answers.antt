@@ -1,6 +1,5 @@
 use Rattle.fold.proofs.Starts.{read_held}
 use Rattle.naming_bench.proofs.Reading.{names_unread, names_read}
-use borrow.Author.Rules.{rules}
 use Rattle.naming_bench.proofs.naming_bench_name.Goals as goal
 
 pub start-requires : goal.start-requires

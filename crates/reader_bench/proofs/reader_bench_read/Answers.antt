@@ -1,5 +1,4 @@
 use Rattle.reader_bench.proofs.Numbers.{read_number, unread_number}
-use borrow.Author.Rules.{rules}
 use Rattle.reader_bench.proofs.reader_bench_read.Goals as goal
 
 pub returns-in-Read : goal.returns-in-Read

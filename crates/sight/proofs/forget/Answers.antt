@@ -1,7 +1,6 @@
-use Prim.Native.Nat.{◌-◌}
 use native.Mathlib.Omega.{arith}
 use Rattle.area.proofs.Laws.{word_at}
-use Rattle.sight.proofs.Stacks.{InvForget, forget_start, forget_within, forget_step, forget_end}
+use Rattle.sight.proofs.Stacks.{forget_start, forget_within, forget_step, forget_end}
 use borrow.Author.Rules.{rules}
 use Rattle.sight.proofs.forget.Goals as goal
 

@@ -1,8 +1,5 @@
 use Prim.Native.Nat.{◌-◌}
-use native.Mathlib.Omega.{arith}
-use Rattle.area.proofs.Laws.{word_at}
-use Rattle.sight.proofs.Stacks.{InvForget, forget_start, forget_within, forget_step, forget_end}
-use borrow.Author.Rules.{rules}
+use Rattle.sight.proofs.Stacks.{InvForget}
 use Rattle.sight.proofs.forget.Given as goal
 
 abbrev pub invariant-loop-k : goal.invariant-loop-k

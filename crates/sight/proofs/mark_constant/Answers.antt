@@ -1,5 +1,4 @@
 use Rattle.sight.proofs.Constants.{constant_set, constant_kept}
-use borrow.Author.Rules.{rules}
 use Rattle.sight.proofs.mark_constant.Goals as goal
 
 pub returns-then-global-eq1 : goal.returns-then-global-eq1

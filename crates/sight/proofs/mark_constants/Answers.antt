@@ -1,6 +1,5 @@
-use Prim.Native.Nat.{◌-◌}
 use native.Mathlib.Omega.{arith}
-use Rattle.sight.proofs.Constants.{InvMark, mark_start, mark_within, mark_step, mark_end}
+use Rattle.sight.proofs.Constants.{mark_start, mark_within, mark_step, mark_end}
 use borrow.Author.Rules.{rules}
 use Rattle.sight.proofs.mark_constants.Goals as goal
 

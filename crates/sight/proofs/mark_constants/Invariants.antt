@@ -1,7 +1,5 @@
 use Prim.Native.Nat.{◌-◌}
-use native.Mathlib.Omega.{arith}
-use Rattle.sight.proofs.Constants.{InvMark, mark_start, mark_within, mark_step, mark_end}
-use borrow.Author.Rules.{rules}
+use Rattle.sight.proofs.Constants.{InvMark}
 use Rattle.sight.proofs.mark_constants.Given as goal
 
 abbrev pub invariant-loop-a : goal.invariant-loop-a

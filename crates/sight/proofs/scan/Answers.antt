@@ -1,9 +1,6 @@
-use Prim.Native.Nat.{◌+◌, ◌-◌}
 use native.Mathlib.Omega.{arith}
-use lib.ListN.{get_or}
 use Rattle.area.proofs.Laws.{word_at}
-use Rattle.sight.proofs.Walks.{InvScan, Step, scan_bounds, scan_within, scan_start, scan_step, scan_end}
-use borrow.Author.Rules.{rules}
+use Rattle.sight.proofs.Walks.{scan_bounds, scan_within, scan_start, scan_step, scan_end}
 use Rattle.sight.proofs.scan.Goals as goal
 
 pub statement-requires : goal.statement-requires

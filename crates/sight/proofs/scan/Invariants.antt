@@ -1,9 +1,5 @@
-use Prim.Native.Nat.{◌+◌, ◌-◌}
-use native.Mathlib.Omega.{arith}
-use lib.ListN.{get_or}
-use Rattle.area.proofs.Laws.{word_at}
-use Rattle.sight.proofs.Walks.{InvScan, Step, scan_bounds, scan_within, scan_start, scan_step, scan_end}
-use borrow.Author.Rules.{rules}
+use Prim.Native.Nat.{◌-◌}
+use Rattle.sight.proofs.Walks.{InvScan}
 use Rattle.sight.proofs.scan.Given as goal
 
 abbrev pub invariant-loop-i : goal.invariant-loop-i

@@ -1,8 +1,5 @@
 use Prim.Native.Nat.{◌-◌}
-use native.Mathlib.Omega.{arith}
-use Rattle.area.proofs.Laws.{word_at}
-use Rattle.sight.proofs.Stacks.{InvAll, all_start, all_can, all_step, all_end, all_bounds}
-use borrow.Author.Rules.{rules}
+use Rattle.sight.proofs.Stacks.{InvAll}
 use Rattle.sight.proofs.scan_all.Given as goal
 
 abbrev pub invariant-loop-k : goal.invariant-loop-k

@@ -1,7 +1,6 @@
 use native.Mathlib.Omega.{arith}
 use Rattle.fold.proofs.Starts.{some_whole}
 use Rattle.catalogue.proofs.Numbers.{whole_again, many, short_frames, short_diags, done}
-use borrow.Author.Rules.{rules}
 use Rattle.catalogue.proofs.streams.answer_read.Goals as goal
 
 pub sizes-requires : goal.sizes-requires

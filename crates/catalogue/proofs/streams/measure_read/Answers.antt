@@ -1,6 +1,5 @@
 use Rattle.fold.proofs.Starts.{some_whole}
 use Rattle.catalogue.proofs.Numbers.{needs_refused, needs_given}
-use borrow.Author.Rules.{rules}
 use Rattle.catalogue.proofs.streams.measure_read.Goals as goal
 
 pub sizes-requires : goal.sizes-requires

@@ -1,5 +1,4 @@
 use Rattle.catalogue.proofs.Numbers.{sizes_of}
-use borrow.Author.Rules.{rules}
 use Rattle.catalogue.proofs.streams.sizes.Goals as goal
 
 pub returns : goal.returns

@@ -1,6 +1,5 @@
 use borrow.Author.Tests.{eq-eqb, ne_eqb}
 use Rattle.checks.proofs.Told.{told, silent}
-use borrow.Author.Rules.{rules}
 use Rattle.checks.proofs.put.put_again.Goals as goal
 
 pub returns-then-p-offset : goal.returns-then-p-offset

@@ -1,5 +1,4 @@
 use Rattle.checks.proofs.Told.{told, silent}
-use borrow.Author.Rules.{rules}
 use Rattle.checks.proofs.put.put_dv.Goals as goal
 
 pub returns-in_default : goal.returns-in_default

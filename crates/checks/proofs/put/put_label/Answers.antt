@@ -1,6 +1,5 @@
 use borrow.Author.Tests.{eq-eqb, ne_eqb}
 use Rattle.checks.proofs.Told.{told, silent}
-use borrow.Author.Rules.{rules}
 use Rattle.checks.proofs.put.put_label.Goals as goal
 
 pub returns-in_default : goal.returns-in_default

@@ -1,5 +1,4 @@
 use Rattle.checks.proofs.Told.{silent}
-use borrow.Author.Rules.{rules}
 use Rattle.checks.proofs.put.put_redeclared.Goals as goal
 
 pub returns-in-Constant : goal.returns-in-Constant

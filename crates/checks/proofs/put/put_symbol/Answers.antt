@@ -1,6 +1,5 @@
 use borrow.Author.Tests.{eq-eqb, ne_eqb}
 use Rattle.checks.proofs.Told.{told, silent}
-use borrow.Author.Rules.{rules}
 use Rattle.checks.proofs.put.put_symbol.Goals as goal
 
 pub returns-then-i-eq0 : goal.returns-then-i-eq0

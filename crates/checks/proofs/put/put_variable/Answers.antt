@@ -1,5 +1,4 @@
 use Rattle.checks.proofs.Told.{told, silent}
-use borrow.Author.Rules.{rules}
 use Rattle.checks.proofs.put.put_variable.Goals as goal
 
 pub returns-in-Inactive : goal.returns-in-Inactive

@@ -1,6 +1,5 @@
 use mathlib.Core.Path.{sym, ap, ◌∙◌}
 use Rattle.checks.specs.Found.{verdict_known}
-use borrow.Author.Rules.{rules}
 use Rattle.checks.proofs.tokens.by_known.Goals as goal
 
 pub returns-in_default : goal.returns-in_default

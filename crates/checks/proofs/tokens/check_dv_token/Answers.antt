@@ -1,5 +1,4 @@
 use Rattle.checks.proofs.Ones.{dv_one}
-use borrow.Author.Rules.{rules}
 use Rattle.checks.proofs.tokens.check_dv_token.Goals as goal
 
 pub returns : goal.returns

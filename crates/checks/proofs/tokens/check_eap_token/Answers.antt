@@ -1,5 +1,4 @@
 use Rattle.checks.proofs.Ones.{eap_one}
-use borrow.Author.Rules.{rules}
 use Rattle.checks.proofs.tokens.check_eap_token.Goals as goal
 
 pub returns : goal.returns

@@ -1,6 +1,5 @@
 use native.Mathlib.Omega.{arith}
 use Rattle.checks.proofs.Ones.{float_failed, float_passed}
-use borrow.Author.Rules.{rules}
 use Rattle.checks.proofs.tokens.check_float.Goals as goal
 
 pub put_variable-q-requires : goal.put_variable-q-requires

@@ -1,5 +1,4 @@
 use Rattle.checks.proofs.Ones.{label_one}
-use borrow.Author.Rules.{rules}
 use Rattle.checks.proofs.tokens.check_label.Goals as goal
 
 pub returns : goal.returns

@@ -1,6 +1,5 @@
 use native.Mathlib.Omega.{arith}
 use Rattle.checks.proofs.Ones.{nested_against, nested_recorded}
-use borrow.Author.Rules.{rules}
 use Rattle.checks.proofs.tokens.check_nested.Goals as goal
 
 pub put_diag-requires : goal.put_diag-requires

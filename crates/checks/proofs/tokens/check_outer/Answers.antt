@@ -1,6 +1,5 @@
 use native.Mathlib.Omega.{arith}
 use Rattle.checks.proofs.Ones.{outer_one}
-use borrow.Author.Rules.{rules}
 use Rattle.checks.proofs.tokens.check_outer.Goals as goal
 
 pub put_redeclared-requires : goal.put_redeclared-requires

@@ -2,7 +2,6 @@ use mathlib.Core.Path.{sym, ◌∙◌}
 use native.Mathlib.Omega.{arith}
 use Rattle.checks.specs.Tokens.{earlier_slot}
 use Rattle.checks.proofs.Ones.{float_row}
-use borrow.Author.Rules.{rules}
 use Rattle.checks.proofs.tokens.earlier_float.Goals as goal
 
 pub returns-in_default : goal.returns-in_default

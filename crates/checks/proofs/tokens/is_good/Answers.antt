@@ -1,7 +1,6 @@
 use mathlib.Core.Path.{sym, ◌∙◌}
 use Rattle.paper.proofs.Tests.{clash}
 use Rattle.checks.proofs.Good.{good_constant, good_variable}
-use borrow.Author.Rules.{rules}
 use Rattle.checks.proofs.tokens.is_good.Goals as goal
 
 pub returns-then-i-eq0 : goal.returns-then-i-eq0

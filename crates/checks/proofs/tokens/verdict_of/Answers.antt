@@ -1,6 +1,5 @@
 use borrow.Author.Tests.{lt-ltb, le-ltb}
 use Rattle.checks.proofs.Ones.{judged_one}
-use borrow.Author.Rules.{rules}
 use Rattle.checks.proofs.tokens.verdict_of.Goals as goal
 
 pub returns-then-g-offset : goal.returns-then-g-offset

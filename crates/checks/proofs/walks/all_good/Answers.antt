@@ -1,9 +1,7 @@
 use native.Mathlib.Omega.{arith}
 use mathlib.Core.Path.{sym}
-use Prim.Native.Nat.{◌-◌}
-use borrow.Author.Tests.{not-false}
 use Rattle.paper.proofs.Tests.{clash}
-use Rattle.checks.proofs.Good.{InvGood, good_start, good_step, good_end}
+use Rattle.checks.proofs.Good.{good_start, good_step, good_end}
 use Rattle.checks.proofs.walks.all_good.Goals as goal
 
 pub loop-i-init : goal.loop-i-init

@@ -1,9 +1,5 @@
-use native.Mathlib.Omega.{arith}
-use mathlib.Core.Path.{sym}
 use Prim.Native.Nat.{◌-◌}
-use borrow.Author.Tests.{not-false}
-use Rattle.paper.proofs.Tests.{clash}
-use Rattle.checks.proofs.Good.{InvGood, good_start, good_step, good_end}
+use Rattle.checks.proofs.Good.{InvGood}
 use Rattle.checks.proofs.walks.all_good.Given as goal
 
 abbrev pub invariant-loop-i : goal.invariant-loop-i

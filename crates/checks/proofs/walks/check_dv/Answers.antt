@@ -1,6 +1,5 @@
 use Rattle.slots.proofs.Kept.{room_kept}
 use Rattle.checks.proofs.OverRows.{atoms_kept, dv_forgot}
-use borrow.Author.Rules.{rules}
 use Rattle.checks.proofs.walks.check_dv.Goals as goal
 
 pub walk_dv-p-requires : goal.walk_dv-p-requires

@@ -1,4 +1,3 @@
-use borrow.Author.Rules.{rules}
 use Rattle.checks.proofs.walks.check_eap.Goals as goal
 
 pub all_good-requires : goal.all_good-requires

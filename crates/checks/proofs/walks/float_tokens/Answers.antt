@@ -1,12 +1,7 @@
-use Prim.Native.Nat.{◌≤◌}
 use native.Mathlib.Omega.{arith}
-use lib.ListN.{length}
-use Rattle.token.specs.Words.{Lined}
 use Rattle.token.proofs.Lines.{line_start}
-use Rattle.checks.specs.Visible.{visible_from, First}
-use Rattle.checks.specs.Walks.{LastTwo}
 use Rattle.checks.proofs.Comments.{first_of, refused_none, none_of, left_calm}
-use Rattle.checks.proofs.Each.{Left, left_start, take_one, left_less, left_none}
+use Rattle.checks.proofs.Each.{left_start, take_one, left_less, left_none}
 use Rattle.checks.proofs.OverPart.{two_start, two_more, two_end}
 use borrow.Author.Rules.{rules}
 use Rattle.checks.proofs.walks.float_tokens.Goals as goal

@@ -1,13 +1,10 @@
 use native.Mathlib.Omega.{arith}
-use lib.ListN.{length}
 use Rattle.slots.proofs.Kept.{room_kept}
-use Rattle.token.specs.Words.{Lined}
 use Rattle.token.proofs.Lines.{line_start}
-use Rattle.checks.specs.Visible.{visible_from}
 use Rattle.checks.proofs.Comments.{first_of, refused_none, none_of, left_calm}
 use Rattle.checks.proofs.OverRows.{can_token}
 use Rattle.checks.proofs.Each.{take_one, left_less}
-use Rattle.checks.proofs.OverPart.{InvNested, nested_start, nested_step, nested_end}
+use Rattle.checks.proofs.OverPart.{nested_start, nested_step, nested_end}
 use borrow.Author.Rules.{rules}
 use Rattle.checks.proofs.walks.walk_nested.Goals as goal
 

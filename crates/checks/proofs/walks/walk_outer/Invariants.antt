@@ -1,14 +1,7 @@
-use native.Mathlib.Omega.{arith}
 use lib.ListN.{length}
-use Rattle.slots.proofs.Kept.{kept_none}
 use Rattle.token.specs.Words.{Lined}
-use Rattle.token.proofs.Lines.{line_start}
 use Rattle.checks.specs.Visible.{visible_from}
-use Rattle.checks.proofs.Comments.{first_of, refused_none, none_of, left_calm}
-use Rattle.checks.proofs.OverRows.{can_token}
-use Rattle.checks.proofs.Each.{take_one, left_less}
-use Rattle.checks.proofs.OverPart.{InvOuter, outer_start, outer_step, outer_end}
-use borrow.Author.Rules.{rules}
+use Rattle.checks.proofs.OverPart.{InvOuter}
 use Rattle.checks.proofs.walks.walk_outer.Given as goal
 
 abbrev pub invariant-loop-x : goal.invariant-loop-x

@@ -1,7 +1,6 @@
 use mathlib.Core.Path.{refl}
 use native.Mathlib.Omega.{arith}
 use Rattle.disjoint.proofs.Written.{put_count, size_few, rows_size, lay, lay_place, puts_short, lay_can, puts_whole}
-use borrow.Author.Rules.{rules}
 use Rattle.disjoint.proofs.draw.put_disjoint.Goals as goal
 
 pub pair_count-pairs-requires : goal.pair_count-pairs-requires

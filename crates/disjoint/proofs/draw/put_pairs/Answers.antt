@@ -1,6 +1,5 @@
 use native.Mathlib.Omega.{arith}
-use Prim.Native.Nat.{◌-◌}
-use Rattle.disjoint.proofs.Draws.{InvAllDrawn, all_drawn_begin, all_drawn_can, all_drawn_step, all_drawn_end}
+use Rattle.disjoint.proofs.Draws.{all_drawn_begin, all_drawn_can, all_drawn_step, all_drawn_end}
 use borrow.Author.Rules.{rules}
 use Rattle.disjoint.proofs.draw.put_pairs.Goals as goal
 

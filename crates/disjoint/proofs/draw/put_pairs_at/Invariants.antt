@@ -1,8 +1,5 @@
-use native.Mathlib.Omega.{arith}
 use Prim.Native.Nat.{◌-◌}
-use Rattle.disjoint.proofs.Walks.{token_here}
-use Rattle.disjoint.proofs.Draws.{InvAt, at_begin, at_beyond, at_can, at_step, at_end}
-use borrow.Author.Rules.{rules}
+use Rattle.disjoint.proofs.Draws.{InvAt}
 use Rattle.disjoint.proofs.draw.put_pairs_at.Given as goal
 
 abbrev pub invariant-loop-j : goal.invariant-loop-j

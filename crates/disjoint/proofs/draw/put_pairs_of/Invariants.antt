@@ -1,7 +1,5 @@
-use native.Mathlib.Omega.{arith}
 use Prim.Native.Nat.{◌-◌}
-use Rattle.disjoint.proofs.Draws.{InvRowDrawn, row_drawn_begin, row_drawn_can, row_drawn_step, row_drawn_end}
-use borrow.Author.Rules.{rules}
+use Rattle.disjoint.proofs.Draws.{InvRowDrawn}
 use Rattle.disjoint.proofs.draw.put_pairs_of.Given as goal
 
 abbrev pub invariant-loop-i : goal.invariant-loop-i

@@ -1,5 +1,4 @@
 use Rattle.area.specs.Cells.{word}
-use borrow.Author.Rules.{rules}
 use Rattle.disjoint.proofs.tally.atom_of.Goals as goal
 
 pub returns : goal.returns

@@ -1,6 +1,5 @@
 use native.Mathlib.Omega.{arith}
-use Prim.Native.Nat.{◌-◌}
-use Rattle.disjoint.proofs.Walks.{InvClear, clear_begin, clear_room, clear_step, clear_done}
+use Rattle.disjoint.proofs.Walks.{clear_begin, clear_room, clear_step, clear_done}
 use borrow.Author.Rules.{rules}
 use Rattle.disjoint.proofs.tally.clear_marks.Goals as goal
 

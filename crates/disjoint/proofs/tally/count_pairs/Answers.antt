@@ -1,6 +1,5 @@
 use native.Mathlib.Omega.{arith}
-use Prim.Native.Nat.{◌-◌}
-use Rattle.disjoint.proofs.Walks.{InvAll, all_begin, all_can, all_step, all_end}
+use Rattle.disjoint.proofs.Walks.{all_begin, all_can, all_step, all_end}
 use borrow.Author.Rules.{rules}
 use Rattle.disjoint.proofs.tally.count_pairs.Goals as goal
 

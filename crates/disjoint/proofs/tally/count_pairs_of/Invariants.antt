@@ -1,7 +1,5 @@
-use native.Mathlib.Omega.{arith}
 use Prim.Native.Nat.{◌-◌}
-use Rattle.disjoint.proofs.Walks.{InvOf, of_begin, of_room, of_can, of_few, of_step, of_end}
-use borrow.Author.Rules.{rules}
+use Rattle.disjoint.proofs.Walks.{InvOf}
 use Rattle.disjoint.proofs.tally.count_pairs_of.Given as goal
 
 abbrev pub invariant-loop-k : goal.invariant-loop-k

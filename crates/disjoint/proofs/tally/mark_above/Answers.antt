@@ -1,6 +1,5 @@
 use native.Mathlib.Omega.{arith}
-use Prim.Native.Nat.{◌-◌}
-use Rattle.disjoint.proofs.Walks.{token_here, InvRow, row_begin, row_can, row_few, row_step, row_end}
+use Rattle.disjoint.proofs.Walks.{token_here, row_begin, row_can, row_few, row_step, row_end}
 use borrow.Author.Rules.{rules}
 use Rattle.disjoint.proofs.tally.mark_above.Goals as goal
 

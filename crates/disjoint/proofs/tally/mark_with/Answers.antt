@@ -1,6 +1,5 @@
 use mathlib.Core.Path.{sym, ◌∙◌}
 use Rattle.disjoint.proofs.Walks.{with_yes, with_no}
-use borrow.Author.Rules.{rules}
 use Rattle.disjoint.proofs.tally.mark_with.Goals as goal
 
 pub returns-then-names_number : goal.returns-then-names_number

@@ -1,6 +1,5 @@
 use native.Mathlib.Omega.{arith}
-use Prim.Native.Nat.{◌-◌}
-use Rattle.disjoint.proofs.Walks.{token_here, InvNames, names_begin, names_here, names_next, names_end}
+use Rattle.disjoint.proofs.Walks.{token_here, names_begin, names_here, names_next, names_end}
 use borrow.Author.Rules.{rules}
 use Rattle.disjoint.proofs.tally.names_number.Goals as goal
 

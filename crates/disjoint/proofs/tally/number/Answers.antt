@@ -2,7 +2,6 @@ use mathlib.Core.Path.{ap}
 use Prim.Native.Nat.{◌-◌}
 use native.Mathlib.Omega.{arith}
 use Rattle.disjoint.proofs.Walks.{atom_below, read_number}
-use borrow.Author.Rules.{rules}
 use Rattle.disjoint.proofs.tally.number.Goals as goal
 
 pub of_symbol-requires : goal.of_symbol-requires

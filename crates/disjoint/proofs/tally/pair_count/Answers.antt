@@ -1,5 +1,4 @@
 use Rattle.disjoint.proofs.Walks.{count_clear, count_done}
-use borrow.Author.Rules.{rules}
 use Rattle.disjoint.proofs.tally.pair_count.Goals as goal
 
 pub clear_marks-requires : goal.clear_marks-requires

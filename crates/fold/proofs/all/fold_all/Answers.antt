@@ -1,5 +1,4 @@
 use Rattle.fold.proofs.Folds.{some_blank, whole_names, folds_all}
-use borrow.Author.Rules.{rules}
 use Rattle.fold.proofs.all.fold_all.Goals as goal
 
 pub forget_all-requires : goal.forget_all-requires

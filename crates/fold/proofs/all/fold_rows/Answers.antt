@@ -1,8 +1,6 @@
-use Rattle.fold.proofs.Folds.{InvFold, fold_start, can_step, can_count, row_room, fold_next, fold_over, fold_end}
+use Rattle.fold.proofs.Folds.{fold_start, can_step, can_count, row_room, fold_next, fold_over, fold_end}
 use mathlib.Core.Path.{◌∙◌}
-use Prim.Native.Nat.{◌-◌}
 use native.Mathlib.Omega.{arith}
-use borrow.Author.Rules.{rules}
 use Rattle.fold.proofs.all.fold_rows.Goals as goal
 
 pub loop-row-init : goal.loop-row-init

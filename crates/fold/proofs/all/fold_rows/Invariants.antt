@@ -1,8 +1,5 @@
-use Rattle.fold.proofs.Folds.{InvFold, fold_start, can_step, can_count, row_room, fold_next, fold_over, fold_end}
-use mathlib.Core.Path.{◌∙◌}
+use Rattle.fold.proofs.Folds.{InvFold}
 use Prim.Native.Nat.{◌-◌}
-use native.Mathlib.Omega.{arith}
-use borrow.Author.Rules.{rules}
 use Rattle.fold.proofs.all.fold_rows.Given as goal
 
 abbrev pub invariant-loop-row : goal.invariant-loop-row

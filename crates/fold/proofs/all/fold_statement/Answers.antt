@@ -1,7 +1,6 @@
 use native.Mathlib.Omega.{arith}
 use Rattle.fold.specs.Fold.{next, over}
 use Rattle.fold.proofs.Folds.{some_turn, some_checks}
-use borrow.Author.Rules.{rules}
 use Rattle.fold.proofs.all.fold_statement.Goals as goal
 
 pub check_statement-next-requires : goal.check_statement-next-requires

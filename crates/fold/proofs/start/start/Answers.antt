@@ -3,7 +3,6 @@ use Prim.Native.Nat.{◌+◌}
 use native.Mathlib.Omega.{arith}
 use Rattle.token.specs.declared.count.Counted.{Counted}
 use Rattle.fold.proofs.Starts.{few_rows, some_read, some_unnumbered, starts}
-use borrow.Author.Rules.{rules}
 use Rattle.fold.proofs.start.start.Goals as goal
 
 pub overflow_add-n : goal.overflow_add-n

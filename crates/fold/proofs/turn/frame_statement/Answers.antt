@@ -1,7 +1,6 @@
 use mathlib.Core.Path.{sym, ◌∙◌}
 use native.Mathlib.Omega.{arith}
 use Rattle.fold.proofs.Turns.{turn_room, turn_rejected, turn_none, can_stub, turn_stub, can_frame, turn_full}
-use borrow.Author.Rules.{rules}
 use Rattle.fold.proofs.turn.frame_statement.Goals as goal
 
 pub of_statement-requires : goal.of_statement-requires

@@ -1,5 +1,4 @@
 use Rattle.forms.proofs.Fragments.{fragment_put}
-use borrow.Author.Rules.{rules}
 use Rattle.forms.proofs.expression.put_fragment.Goals as goal
 
 pub returns : goal.returns

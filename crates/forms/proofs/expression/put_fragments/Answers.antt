@@ -1,6 +1,5 @@
-use Prim.Native.Nat.{◌-◌}
 use mathlib.Core.Path.{◌∙◌}
-use Rattle.forms.proofs.Fragments.{InvFragments, fragments_begin, fragments_can, fragments_step, fragments_end}
+use Rattle.forms.proofs.Fragments.{fragments_begin, fragments_can, fragments_step, fragments_end}
 use borrow.Author.Rules.{rules}
 use Rattle.forms.proofs.expression.put_fragments.Goals as goal
 

@@ -1,6 +1,5 @@
 use Rattle.forms.proofs.Constants.{token_words}
 use Rattle.forms.proofs.Spelled.{expression_put}
-use native.Mathlib.Omega.{arith}
 use borrow.Author.Rules.{rules}
 use Rattle.forms.proofs.expression.put_spelled.Goals as goal
 

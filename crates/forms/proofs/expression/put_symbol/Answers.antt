@@ -1,5 +1,4 @@
 use Rattle.forms.proofs.Fragments.{symbol_constant, symbol_variable}
-use borrow.Author.Rules.{rules}
 use Rattle.forms.proofs.expression.put_symbol.Goals as goal
 
 pub returns-then-number : goal.returns-then-number

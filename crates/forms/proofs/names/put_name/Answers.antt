@@ -1,5 +1,4 @@
 use Rattle.forms.proofs.OneName.{name_put}
-use borrow.Author.Rules.{rules}
 use Rattle.forms.proofs.names.put_name.Goals as goal
 
 pub returns : goal.returns

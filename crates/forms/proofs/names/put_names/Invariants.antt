@@ -1,7 +1,5 @@
-use native.Mathlib.Omega.{arith}
 use Prim.Native.Nat.{◌-◌}
-use Rattle.forms.proofs.Variables.{InvNames, names_begin, names_can, names_step, names_end}
-use borrow.Author.Rules.{rules}
+use Rattle.forms.proofs.Variables.{InvNames}
 use Rattle.forms.proofs.names.put_names.Given as goal
 
 abbrev pub invariant-loop-k : goal.invariant-loop-k

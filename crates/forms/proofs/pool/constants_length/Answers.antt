@@ -1,5 +1,4 @@
-use Prim.Native.Nat.{◌-◌}
-use Rattle.forms.proofs.Constants.{InvSizes, sizes_begin, sizes_can, sizes_step, sizes_end}
+use Rattle.forms.proofs.Constants.{sizes_begin, sizes_can, sizes_step, sizes_end}
 use borrow.Author.Rules.{rules}
 use Rattle.forms.proofs.pool.constants_length.Goals as goal
 

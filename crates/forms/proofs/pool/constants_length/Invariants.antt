@@ -1,6 +1,5 @@
 use Prim.Native.Nat.{◌-◌}
-use Rattle.forms.proofs.Constants.{InvSizes, sizes_begin, sizes_can, sizes_step, sizes_end}
-use borrow.Author.Rules.{rules}
+use Rattle.forms.proofs.Constants.{InvSizes}
 use Rattle.forms.proofs.pool.constants_length.Given as goal
 
 abbrev pub invariant-loop-i : goal.invariant-loop-i

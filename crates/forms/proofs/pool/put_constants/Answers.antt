@@ -1,6 +1,5 @@
 use native.Mathlib.Omega.{arith}
-use Prim.Native.Nat.{◌-◌}
-use Rattle.forms.proofs.Constants.{token_words, token_low, InvConstants, constants_begin, constants_step, constants_end}
+use Rattle.forms.proofs.Constants.{token_words, token_low, constants_begin, constants_step, constants_end}
 use borrow.Author.Rules.{rules}
 use Rattle.forms.proofs.pool.put_constants.Goals as goal
 

@@ -1,7 +1,5 @@
-use native.Mathlib.Omega.{arith}
 use Prim.Native.Nat.{◌-◌}
-use Rattle.forms.proofs.Constants.{token_words, token_low, InvConstants, constants_begin, constants_step, constants_end}
-use borrow.Author.Rules.{rules}
+use Rattle.forms.proofs.Constants.{InvConstants}
 use Rattle.forms.proofs.pool.put_constants.Given as goal
 
 abbrev pub invariant-loop-i : goal.invariant-loop-i

@@ -1,6 +1,5 @@
 use native.Mathlib.Omega.{arith}
 use Rattle.forms.proofs.Essentials.{pool_after, pool_put}
-use borrow.Author.Rules.{rules}
 use Rattle.forms.proofs.pool.put_pool.Goals as goal
 
 pub put_constants-c-requires : goal.put_constants-c-requires

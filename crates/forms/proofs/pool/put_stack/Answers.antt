@@ -1,6 +1,5 @@
 use native.Mathlib.Omega.{arith}
-use Prim.Native.Nat.{◌-◌}
-use Rattle.forms.proofs.Essentials.{stack_row, stack_place, InvStack, stack_begin, stack_step, stack_end}
+use Rattle.forms.proofs.Essentials.{stack_row, stack_place, stack_begin, stack_step, stack_end}
 use borrow.Author.Rules.{rules}
 use Rattle.forms.proofs.pool.put_stack.Goals as goal
 

@@ -1,6 +1,5 @@
 use native.Mathlib.Omega.{arith}
-use Prim.Native.Nat.{◌-◌}
-use Rattle.forms.proofs.Essentials.{stack_place, InvSize, size_begin, size_can, size_step, size_end}
+use Rattle.forms.proofs.Essentials.{stack_place, size_begin, size_can, size_step, size_end}
 use borrow.Author.Rules.{rules}
 use Rattle.forms.proofs.pool.stack_length.Goals as goal
 

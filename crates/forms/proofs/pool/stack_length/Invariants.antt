@@ -1,7 +1,5 @@
-use native.Mathlib.Omega.{arith}
 use Prim.Native.Nat.{◌-◌}
-use Rattle.forms.proofs.Essentials.{stack_place, InvSize, size_begin, size_can, size_step, size_end}
-use borrow.Author.Rules.{rules}
+use Rattle.forms.proofs.Essentials.{InvSize}
 use Rattle.forms.proofs.pool.stack_length.Given as goal
 
 abbrev pub invariant-loop-k : goal.invariant-loop-k

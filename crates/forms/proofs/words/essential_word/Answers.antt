@@ -1,7 +1,6 @@
 use mathlib.Core.Path.{ap}
 use lib.ListN.{get_or}
 use Rattle.area.specs.Cells.{word}
-use borrow.Author.Rules.{rules}
 use Rattle.forms.proofs.words.essential_word.Goals as goal
 
 pub returns : goal.returns

@@ -2,7 +2,6 @@ use Rattle.forms.proofs.Constants.{atom_read}
 use mathlib.Core.Path.{ap}
 use lib.ListN.{get_or}
 use Rattle.area.specs.Cells.{word}
-use borrow.Author.Rules.{rules}
 use Rattle.forms.proofs.words.math_word.Goals as goal
 
 pub returns : goal.returns

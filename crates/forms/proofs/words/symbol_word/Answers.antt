@@ -2,7 +2,6 @@ use native.Mathlib.Omega.{arith}
 use mathlib.Core.Path.{ap}
 use lib.ListN.{get_or}
 use Rattle.area.specs.Cells.{word}
-use borrow.Author.Rules.{rules}
 use Rattle.forms.proofs.words.symbol_word.Goals as goal
 
 pub overflow_cast-result : goal.overflow_cast-result

@@ -3,7 +3,6 @@ use native.Mathlib.Omega.{arith}
 use lib.ListN.{length}
 use Rattle.frames.proofs.Parts.{hand_front, hand_names, hand_few, whole_hand, whole_disjoint}
 use Rattle.frames.proofs.Past.{pool_few, frame_measured}
-use borrow.Author.Rules.{rules}
 use Rattle.frames.proofs.full.frame_end.Goals as goal
 
 pub put_front-a-requires : goal.put_front-a-requires

@@ -2,7 +2,6 @@ use mathlib.Core.Path.{ap}
 use native.Mathlib.Omega.{arith}
 use lib.ListN.{length}
 use Rattle.frames.proofs.Parts.{whole_hand, whole_disjoint, frame_after, frame_put}
-use borrow.Author.Rules.{rules}
 use Rattle.frames.proofs.full.put_frame.Goals as goal
 
 pub frame_end-requires : goal.frame_end-requires

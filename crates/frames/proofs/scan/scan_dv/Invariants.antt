@@ -1,9 +1,5 @@
 use Prim.Native.Nat.{◌-◌}
-use native.Mathlib.Omega.{arith}
-use Rattle.area.proofs.Laws.{word_at}
-use Rattle.sight.proofs.Stacks.{all_can, all_end, all_bounds}
-use Rattle.frames.proofs.Outer.{deep_stack, can_lower, Onward, onward_start, onward_step}
-use borrow.Author.Rules.{rules}
+use Rattle.frames.proofs.Outer.{Onward}
 use Rattle.frames.proofs.scan.scan_dv.Given as goal
 
 abbrev pub invariant-loop-k : goal.invariant-loop-k

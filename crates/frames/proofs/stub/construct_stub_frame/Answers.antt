@@ -1,6 +1,5 @@
 use native.Mathlib.Omega.{arith}
 use Rattle.frames.proofs.Floats.{stub_words, stubs, stub_requires}
-use borrow.Author.Rules.{rules}
 use Rattle.frames.proofs.stub.construct_stub_frame.Goals as goal
 
 pub statement_word-start-requires : goal.statement_word-start-requires

@@ -1,5 +1,4 @@
 use Rattle.forms.specs.Words.{name_bytes}
-use borrow.Author.Rules.{rules}
 use Rattle.frames.proofs.stub.name_part.Goals as goal
 
 pub returns : goal.returns

@@ -3,13 +3,11 @@ use Prim.Native.Nat.{ℕ, ◌-◌, ◌*◌, ◌<◌}
 use mathlib.Core.Bool.{Bool}
 use native.Mathlib.Omega.{arith}
 use Rattle.area.specs.Cells.{word}
-use Rattle.nameck.specs.Links.{hash, head_by, fork, link}
-use Rattle.nameck.specs.Table.{name_at}
+use Rattle.nameck.specs.Links.{head_by, fork, link}
 use Rattle.nameck.proofs.Search.{spans_fewer}
 use Rattle.nameck.proofs.Hash.{hash_small}
 use Rattle.nameck.proofs.Links.{link_in, head_in}
-use Rattle.nameck.proofs.Found.{Walk, walk_begin, walk_step, walk_found, walk_none, walk_ended}
-use borrow.Author.Rules.{rules}
+use Rattle.nameck.proofs.Found.{walk_begin, walk_step, walk_found, walk_none, walk_ended}
 use Rattle.nameck.proofs.intern.find.Goals as goal
 
 -- a link's cell is inside the area

@@ -3,7 +3,6 @@ use Prim.Native.Nat.{◌-◌, ◌/◌, ◌%◌, ◌^◌}
 use borrow.Author.Tests.{lt-ltb, le-ltb}
 use Rattle.nameck.specs.Links.{fork}
 use Rattle.nameck.proofs.Hash.{bit_past}
-use borrow.Author.Rules.{rules}
 use Rattle.nameck.proofs.intern.fork_at.Goals as goal
 
 pub returns-then-d-lt32 : goal.returns-then-d-lt32

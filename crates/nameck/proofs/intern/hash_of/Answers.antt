@@ -1,9 +1,6 @@
-use mathlib.Core.Path.{◌≡◌, sym, ◌∙◌}
-use Prim.Native.Nat.{◌-◌, ◌<◌, ◌≤◌}
+use mathlib.Core.Path.{sym, ◌∙◌}
 use native.Mathlib.Omega.{arith}
-use lib.ListN.{length}
-use Rattle.nameck.specs.Links.{hash}
-use Rattle.nameck.proofs.Hash.{hash_from, hash_whole, hash_step, hash_end}
+use Rattle.nameck.proofs.Hash.{hash_whole, hash_step, hash_end}
 use borrow.Author.Rules.{rules}
 use Rattle.nameck.proofs.intern.hash_of.Goals as goal
 

@@ -1,10 +1,8 @@
-use mathlib.Core.Path.{◌≡◌, sym, ◌∙◌}
+use mathlib.Core.Path.{◌≡◌}
 use Prim.Native.Nat.{◌-◌, ◌<◌, ◌≤◌}
-use native.Mathlib.Omega.{arith}
 use lib.ListN.{length}
 use Rattle.nameck.specs.Links.{hash}
-use Rattle.nameck.proofs.Hash.{hash_from, hash_whole, hash_step, hash_end}
-use borrow.Author.Rules.{rules}
+use Rattle.nameck.proofs.Hash.{hash_from}
 use Rattle.nameck.proofs.intern.hash_of.Given as goal
 
 abbrev pub invariant-loop-k : goal.invariant-loop-k

@@ -2,7 +2,6 @@ use mathlib.Core.Path.{refl}
 use native.Mathlib.Omega.{arith}
 use Rattle.nameck.proofs.Search.{found_few}
 use Rattle.nameck.proofs.Added.{ended_in, intern_old, intern_new}
-use borrow.Author.Rules.{rules}
 use Rattle.nameck.proofs.intern.intern.Goals as goal
 
 pub find-p-requires : goal.find-p-requires

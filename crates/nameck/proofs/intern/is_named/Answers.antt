@@ -2,7 +2,6 @@ use mathlib.Core.Path.{ap, ◌∙◌}
 use native.Mathlib.Omega.{arith}
 use Rattle.paper.specs.Base.{sameb}
 use Rattle.nameck.proofs.Search.{row_order, row_within, row_name}
-use borrow.Author.Rules.{rules}
 use Rattle.nameck.proofs.intern.is_named.Goals as goal
 
 pub overflow_cast-start : goal.overflow_cast-start

@@ -1,5 +1,4 @@
 use Rattle.nameck.specs.Links.{link}
-use borrow.Author.Rules.{rules}
 use Rattle.nameck.proofs.intern.link_of.Goals as goal
 
 pub returns-then-right : goal.returns-then-right

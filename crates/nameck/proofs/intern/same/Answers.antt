@@ -1,9 +1,6 @@
-use mathlib.Core.Path.{◌≡◌, sym, ◌∙◌}
-use Prim.Native.Nat.{◌-◌, ◌≤◌}
+use mathlib.Core.Path.{sym, ◌∙◌}
 use native.Mathlib.Omega.{arith}
-use lib.ListN.{length}
-use Rattle.paper.specs.Base.{sameb}
-use Rattle.nameck.proofs.Search.{same_from, same_whole, same_length_ne, same_differ, same_step, same_end}
+use Rattle.nameck.proofs.Search.{same_whole, same_length_ne, same_differ, same_step, same_end}
 use borrow.Author.Rules.{rules}
 use Rattle.nameck.proofs.intern.same.Goals as goal
 

@@ -1,10 +1,8 @@
-use mathlib.Core.Path.{◌≡◌, sym, ◌∙◌}
+use mathlib.Core.Path.{◌≡◌}
 use Prim.Native.Nat.{◌-◌, ◌≤◌}
-use native.Mathlib.Omega.{arith}
 use lib.ListN.{length}
 use Rattle.paper.specs.Base.{sameb}
-use Rattle.nameck.proofs.Search.{same_from, same_whole, same_length_ne, same_differ, same_step, same_end}
-use borrow.Author.Rules.{rules}
+use Rattle.nameck.proofs.Search.{same_from}
 use Rattle.nameck.proofs.intern.same.Given as goal
 
 abbrev pub invariant-loop-i : goal.invariant-loop-i

@@ -1,5 +1,4 @@
 use Rattle.nameck.proofs.Answers.{owned_none, owned_some}
-use borrow.Author.Rules.{rules}
 use Rattle.nameck.proofs.lookup.lookup_label.Goals as goal
 
 pub returns-then-o-eq0 : goal.returns-then-o-eq0

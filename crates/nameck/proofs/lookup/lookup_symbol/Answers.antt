@@ -1,5 +1,4 @@
 use Rattle.nameck.proofs.Answers.{declared_none, declared_constant, declared_variable}
-use borrow.Author.Rules.{rules}
 use Rattle.nameck.proofs.lookup.lookup_symbol.Goals as goal
 
 pub returns-then-g-eq0 : goal.returns-then-g-eq0

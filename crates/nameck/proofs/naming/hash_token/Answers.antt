@@ -1,8 +1,6 @@
-use Prim.Native.Nat.{◌-◌}
 use native.Mathlib.Omega.{arith}
-use lib.ListN.{length}
 use Rattle.token.proofs.Classes.{is_white, not_white}
-use Rattle.nameck.proofs.Hash.{Hashing, hashing_begin, hashing_step, hashing_white, hashing_end}
+use Rattle.nameck.proofs.Hash.{hashing_begin, hashing_step, hashing_white, hashing_end}
 use borrow.Author.Rules.{rules}
 use Rattle.nameck.proofs.naming.hash_token.Goals as goal
 

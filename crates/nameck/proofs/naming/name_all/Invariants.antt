@@ -1,7 +1,5 @@
 use Prim.Native.Nat.{◌-◌, ◌≤◌}
-use native.Mathlib.Omega.{arith}
-use Rattle.nameck.proofs.Whole.{InvAll, all_begin, some_statement, all_step, all_end}
-use borrow.Author.Rules.{rules}
+use Rattle.nameck.proofs.Whole.{InvAll}
 use Rattle.nameck.proofs.naming.name_all.Given as goal
 
 abbrev pub invariant-loop-s : goal.invariant-loop-s

@@ -2,7 +2,6 @@ use mathlib.Core.Path.{◌∙◌}
 use native.Mathlib.Omega.{arith}
 use lib.ListN.{length-set}
 use Rattle.nameck.proofs.Step.{label_none, some_label, label_atom, label_named}
-use borrow.Author.Rules.{rules}
 use Rattle.nameck.proofs.naming.name_label.Goals as goal
 
 pub returns-then-work-statement-lt4 : goal.returns-then-work-statement-lt4

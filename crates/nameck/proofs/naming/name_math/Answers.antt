@@ -1,6 +1,5 @@
-use Prim.Native.Nat.{◌-◌, ◌≤◌}
 use native.Mathlib.Omega.{arith}
-use Rattle.nameck.proofs.Walk.{InvMath, math_begin, some_at, math_step, math_end, read}
+use Rattle.nameck.proofs.Walk.{math_begin, some_at, math_step, math_end, read}
 use borrow.Author.Rules.{rules}
 use Rattle.nameck.proofs.naming.name_math.Goals as goal
 

@@ -1,7 +1,5 @@
 use Prim.Native.Nat.{◌-◌, ◌≤◌}
-use native.Mathlib.Omega.{arith}
-use Rattle.nameck.proofs.Walk.{InvMath, math_begin, some_at, math_step, math_end, read}
-use borrow.Author.Rules.{rules}
+use Rattle.nameck.proofs.Walk.{InvMath}
 use Rattle.nameck.proofs.naming.name_math.Given as goal
 
 abbrev pub invariant-loop-i : goal.invariant-loop-i

@@ -1,7 +1,6 @@
 use mathlib.Core.Path.{refl}
 use native.Mathlib.Omega.{arith}
 use Rattle.nameck.proofs.Whole.{statement_label, statement_order, statement_within, statement_math, statement_named}
-use borrow.Author.Rules.{rules}
 use Rattle.nameck.proofs.naming.name_statement.Goals as goal
 
 pub name_label-k-requires : goal.name_label-k-requires

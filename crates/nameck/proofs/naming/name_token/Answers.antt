@@ -2,7 +2,6 @@ use mathlib.Core.Path.{refl, ◌∙◌}
 use native.Mathlib.Omega.{arith}
 use lib.ListN.{length-set}
 use Rattle.nameck.proofs.Step.{some_row, some_from, some_early, some_hash, some_token, token_atom, token_named}
-use borrow.Author.Rules.{rules}
 use Rattle.nameck.proofs.naming.name_token.Goals as goal
 
 pub math-requires : goal.math-requires

@@ -3,7 +3,6 @@ use lib.ListN.{get_or}
 use borrow.Author.Tests.{eq-eqb, ne_eqb}
 use Rattle.area.specs.Cells.{word}
 use Rattle.nameck.specs.Table.{noted}
-use borrow.Author.Rules.{rules}
 use Rattle.nameck.proofs.naming.note.Goals as goal
 
 pub returns-then-work-cell-eq0 : goal.returns-then-work-cell-eq0

@@ -1,7 +1,6 @@
 use mathlib.Core.Path.{◌∙◌}
 use borrow.Author.Tests.{eq-eqb, ne_eqb}
 use Rattle.nameck.specs.Table.{globally}
-use borrow.Author.Rules.{rules}
 use Rattle.nameck.proofs.naming.note_global.Goals as goal
 
 pub returns-then-kind-ne0 : goal.returns-then-kind-ne0

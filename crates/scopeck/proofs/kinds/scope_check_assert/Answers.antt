@@ -2,7 +2,6 @@ use mathlib.Core.Path.{refl}
 use native.Mathlib.Omega.{arith}
 use Rattle.scopeck.proofs.Ready.{row_room, can_labelled, walk_eap}
 use Rattle.scopeck.proofs.Labelled.{borne_at, later_bearer, asserted}
-use borrow.Author.Rules.{rules}
 use Rattle.scopeck.proofs.kinds.scope_check_assert.Goals as goal
 
 pub read_row-x-requires : goal.read_row-x-requires

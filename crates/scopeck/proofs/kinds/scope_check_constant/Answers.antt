@@ -1,7 +1,6 @@
 use native.Mathlib.Omega.{arith}
 use Rattle.scopeck.proofs.Ready.{row_room, small_place, walk_part}
 use Rattle.scopeck.proofs.Unlabelled.{constant_outer, constant_nested}
-use borrow.Author.Rules.{rules}
 use Rattle.scopeck.proofs.kinds.scope_check_constant.Goals as goal
 
 pub read_row-x-requires : goal.read_row-x-requires

@@ -3,7 +3,6 @@ use native.Mathlib.Omega.{arith}
 use Rattle.scopeck.proofs.Ready.{row_room, walk_of, part_counted, part_calm}
 use Rattle.slots.proofs.Kept.{room_kept}
 use Rattle.scopeck.proofs.Unlabelled.{dv_rejected, dv_accepted}
-use borrow.Author.Rules.{rules}
 use Rattle.scopeck.proofs.kinds.scope_check_dv.Goals as goal
 
 pub read_row-x-requires : goal.read_row-x-requires

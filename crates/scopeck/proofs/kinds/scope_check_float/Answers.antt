@@ -3,7 +3,6 @@ use native.Mathlib.Omega.{arith}
 use Rattle.scopeck.proofs.Ready.{row_room, can_labelled, can_float, walk_of, part_counted, part_calm, two_of}
 use Rattle.scopeck.proofs.Labelled.{borne_at, later_bearer}
 use Rattle.scopeck.proofs.Floating.{float_rejected, float_accepted}
-use borrow.Author.Rules.{rules}
 use Rattle.scopeck.proofs.kinds.scope_check_float.Goals as goal
 
 pub read_row-x-requires : goal.read_row-x-requires

@@ -1,7 +1,6 @@
 use native.Mathlib.Omega.{arith}
 use Rattle.scopeck.proofs.Ready.{row_room, walk_part}
 use Rattle.scopeck.proofs.Unlabelled.{variable_outer, variable_nested}
-use borrow.Author.Rules.{rules}
 use Rattle.scopeck.proofs.kinds.scope_check_variable.Goals as goal
 
 pub read_row-x-requires : goal.read_row-x-requires

@@ -1,6 +1,5 @@
 use borrow.Author.Tests.{eq-eqb, ne_eqb}
 use Rattle.scopeck.proofs.Owners.{not_nobody, owns_by}
-use borrow.Author.Rules.{rules}
 use Rattle.scopeck.proofs.rows.check_label_dup.Goals as goal
 
 pub unreachable-requires : goal.unreachable-requires

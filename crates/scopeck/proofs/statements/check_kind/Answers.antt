@@ -1,7 +1,6 @@
 use native.Mathlib.Omega.{arith}
 use Rattle.scopeck.proofs.Ready.{row_room}
 use Rattle.scopeck.proofs.Whole.{part_is, some_part, text_part}
-use borrow.Author.Rules.{rules}
 use Rattle.scopeck.proofs.statements.check_kind.Goals as goal
 
 pub of_statement-from-requires : goal.of_statement-from-requires

@@ -2,7 +2,6 @@ use mathlib.Core.Path.{sym, ◌∙◌}
 use native.Mathlib.Omega.{arith}
 use Rattle.scopeck.proofs.Ready.{row_room}
 use Rattle.scopeck.proofs.Whole.{kind_some}
-use borrow.Author.Rules.{rules}
 use Rattle.scopeck.proofs.statements.check_part.Goals as goal
 
 pub of_statement-kind-requires : goal.of_statement-kind-requires

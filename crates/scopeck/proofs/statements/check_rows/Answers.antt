@@ -1,7 +1,5 @@
 use native.Mathlib.Omega.{arith}
-use Prim.Native.Nat.{◌-◌}
-use Rattle.scopeck.proofs.Whole.{InvRows, rows_start, some_before, rows_step, rows_end}
-use borrow.Author.Rules.{rules}
+use Rattle.scopeck.proofs.Whole.{rows_start, some_before, rows_step, rows_end}
 use Rattle.scopeck.proofs.statements.check_rows.Goals as goal
 
 pub loop-row-init : goal.loop-row-init

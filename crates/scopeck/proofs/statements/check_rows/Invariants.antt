@@ -1,7 +1,5 @@
-use native.Mathlib.Omega.{arith}
 use Prim.Native.Nat.{◌-◌}
-use Rattle.scopeck.proofs.Whole.{InvRows, rows_start, some_before, rows_step, rows_end}
-use borrow.Author.Rules.{rules}
+use Rattle.scopeck.proofs.Whole.{InvRows}
 use Rattle.scopeck.proofs.statements.check_rows.Given as goal
 
 abbrev pub invariant-loop-row : goal.invariant-loop-row

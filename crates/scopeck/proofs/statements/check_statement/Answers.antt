@@ -1,7 +1,6 @@
 use native.Mathlib.Omega.{arith}
 use Rattle.slots.proofs.Kept.{room_kept}
 use Rattle.scopeck.proofs.Whole.{before_room, deep_ess, deep_dis, ready_of, steps_of}
-use borrow.Author.Rules.{rules}
 use Rattle.scopeck.proofs.statements.check_statement.Goals as goal
 
 pub of_statement-requires : goal.of_statement-requires

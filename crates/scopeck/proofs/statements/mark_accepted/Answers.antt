@@ -1,5 +1,4 @@
 use borrow.Author.Tests.{eq-eqb, ne_eqb}
-use borrow.Author.Rules.{rules}
 use Rattle.scopeck.proofs.statements.mark_accepted.Goals as goal
 
 pub returns-then-before-after : goal.returns-then-before-after

@@ -1,5 +1,4 @@
 use Rattle.scopeck.proofs.Whole.{names_fit, some_blank, checks_all}
-use borrow.Author.Rules.{rules}
 use Rattle.scopeck.proofs.statements.scope_check_all.Goals as goal
 
 pub forget_all-requires : goal.forget_all-requires

@@ -1,5 +1,4 @@
 use Rattle.area.specs.Cells.{word}
-use borrow.Author.Rules.{rules}
 use Rattle.slots.proofs.cells.of_statement.Goals as goal
 
 pub returns : goal.returns

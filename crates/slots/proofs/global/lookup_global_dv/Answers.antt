@@ -1,9 +1,7 @@
 use mathlib.Core.Path.{◌∙◌, sym}
-use Prim.Native.Nat.{◌-◌}
 use native.Mathlib.Omega.{arith}
 use Rattle.slots.proofs.Stacks.{end_is}
-use Rattle.slots.proofs.Lowest.{InvGlobal, global_start, global_step, global_end}
-use borrow.Author.Rules.{rules}
+use Rattle.slots.proofs.Lowest.{global_start, global_step, global_end}
 use Rattle.slots.proofs.global.lookup_global_dv.Goals as goal
 
 pub loop-k-init : goal.loop-k-init

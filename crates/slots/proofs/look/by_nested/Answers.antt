@@ -1,6 +1,5 @@
 use mathlib.Core.Path.{sym, ap, ◌∙◌}
 use Rattle.slots.specs.Slots.{sense_nested, checked_of}
-use borrow.Author.Rules.{rules}
 use Rattle.slots.proofs.look.by_nested.Goals as goal
 
 pub returns-in_default : goal.returns-in_default

@@ -1,6 +1,5 @@
 use borrow.Author.Tests.{lt-ltb, le-ltb}
 use Rattle.slots.proofs.Words.{sensed_by}
-use borrow.Author.Rules.{rules}
 use Rattle.slots.proofs.look.check_math_symbol.Goals as goal
 
 pub returns-then-g-here : goal.returns-then-g-here

@@ -1,6 +1,5 @@
 use borrow.Author.Tests.{eq-eqb, ne_eqb, lt-ltb, le-ltb}
 use Rattle.slots.specs.Slots.{float_slot}
-use borrow.Author.Rules.{rules}
 use Rattle.slots.proofs.look.lookup_float.Goals as goal
 
 pub returns-then-f-eq0 : goal.returns-then-f-eq0

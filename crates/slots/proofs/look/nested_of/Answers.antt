@@ -1,6 +1,5 @@
 use borrow.Author.Tests.{lt-ltb, le-ltb}
 use Rattle.slots.specs.Slots.{nested_slot}
-use borrow.Author.Rules.{rules}
 use Rattle.slots.proofs.look.nested_of.Goals as goal
 
 pub returns-then-here-end : goal.returns-then-here-end

@@ -1,5 +1,4 @@
 use Rattle.slots.specs.Slots.{with_float}
-use borrow.Author.Rules.{rules}
 use Rattle.slots.proofs.look.record_float.Goals as goal
 
 pub returns : goal.returns

@@ -1,8 +1,7 @@
-use Prim.Native.Nat.{◌-◌, ◌+◌}
+use Prim.Native.Nat.{◌+◌}
 use native.Mathlib.Omega.{arith}
 use Rattle.slots.proofs.Kept.{room_kept}
-use Rattle.slots.proofs.Marks.{InvForget, forget_start, forget_step, forget_end}
-use borrow.Author.Rules.{rules}
+use Rattle.slots.proofs.Marks.{forget_start, forget_step, forget_end}
 use Rattle.slots.proofs.mark.forget_dv.Goals as goal
 
 pub loop-i-init : goal.loop-i-init

@@ -1,8 +1,5 @@
-use Prim.Native.Nat.{◌-◌, ◌+◌}
-use native.Mathlib.Omega.{arith}
-use Rattle.slots.proofs.Kept.{room_kept}
-use Rattle.slots.proofs.Marks.{InvForget, forget_start, forget_step, forget_end}
-use borrow.Author.Rules.{rules}
+use Prim.Native.Nat.{◌-◌}
+use Rattle.slots.proofs.Marks.{InvForget}
 use Rattle.slots.proofs.mark.forget_dv.Given as goal
 
 abbrev pub invariant-loop-i : goal.invariant-loop-i

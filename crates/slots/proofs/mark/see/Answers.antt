@@ -1,6 +1,5 @@
 use mathlib.Core.Path.{sym, ◌∙◌}
 use Rattle.slots.proofs.Marks.{mark_nothing, mark_at}
-use borrow.Author.Rules.{rules}
 use Rattle.slots.proofs.mark.see.Goals as goal
 
 pub returns-then-k-eq0 : goal.returns-then-k-eq0

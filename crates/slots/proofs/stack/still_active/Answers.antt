@@ -1,7 +1,6 @@
-use mathlib.Core.Path.{◌≡◌, sym, ◌∙◌, refl}
-use Prim.Native.Nat.{◌-◌, ◌≤◌}
+use mathlib.Core.Path.{sym, ◌∙◌, refl}
+use Prim.Native.Nat.{◌-◌}
 use native.Mathlib.Omega.{arith}
-use Rattle.slots.specs.Stack.{pop_of}
 use Rattle.slots.proofs.Stacks.{pop_stop, pop_more, pop_zero, end_is}
 use borrow.Author.Rules.{rules}
 use Rattle.slots.proofs.stack.still_active.Goals as goal

@@ -1,5 +1,4 @@
 use Rattle.token.proofs.Counts.{all_good, one_bad}
-use borrow.Author.Rules.{rules}
 use Rattle.token.proofs.count.count.Goals as goal
 
 pub returns-then-t-eq0 : goal.returns-then-t-eq0

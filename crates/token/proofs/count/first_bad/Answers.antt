@@ -1,7 +1,4 @@
-use mathlib.Core.Path.{◌≡◌, sym, ap, ◌∙◌}
-use Prim.Native.Nat.{◌-◌}
-use lib.ListN.{length, drop}
-use Rattle.paper.specs.Tokens.{bad_from}
+use mathlib.Core.Path.{sym, ap, ◌∙◌}
 use Rattle.token.specs.Count.{bad_of}
 use Rattle.token.proofs.Classes.{is_bad, not_bad}
 use Rattle.token.proofs.Counts.{bad_end, bad_here, bad_step}

@@ -1,11 +1,7 @@
-use mathlib.Core.Path.{◌≡◌, sym, ap, ◌∙◌}
+use mathlib.Core.Path.{◌≡◌}
 use Prim.Native.Nat.{◌-◌}
 use lib.ListN.{length, drop}
 use Rattle.paper.specs.Tokens.{bad_from}
-use Rattle.token.specs.Count.{bad_of}
-use Rattle.token.proofs.Classes.{is_bad, not_bad}
-use Rattle.token.proofs.Counts.{bad_end, bad_here, bad_step}
-use borrow.Author.Rules.{rules}
 use Rattle.token.proofs.count.first_bad.Given as goal
 
 abbrev pub invariant-loop-i : goal.invariant-loop-i

@@ -1,4 +1,3 @@
-use borrow.Author.Rules.{rules}
 use Rattle.token.proofs.count.tally_all.Goals as goal
 
 pub returns-then-w-lt4294967296 : goal.returns-then-w-lt4294967296

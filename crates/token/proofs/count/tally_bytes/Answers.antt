@@ -1,6 +1,4 @@
-use Prim.Native.Nat.{◌-◌}
-use lib.ListN.{length}
-use Rattle.token.proofs.Counts.{Tallied, tally_start, tally_step, tally_end}
+use Rattle.token.proofs.Counts.{tally_start, tally_step, tally_end}
 use borrow.Author.Rules.{rules}
 use Rattle.token.proofs.count.tally_bytes.Goals as goal
 

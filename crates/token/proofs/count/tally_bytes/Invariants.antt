@@ -1,7 +1,6 @@
 use Prim.Native.Nat.{◌-◌}
 use lib.ListN.{length}
-use Rattle.token.proofs.Counts.{Tallied, tally_start, tally_step, tally_end}
-use borrow.Author.Rules.{rules}
+use Rattle.token.proofs.Counts.{Tallied}
 use Rattle.token.proofs.count.tally_bytes.Given as goal
 
 abbrev pub invariant-loop-i : goal.invariant-loop-i

@@ -1,8 +1,6 @@
-use mathlib.Core.Path.{refl}
-use Prim.Native.Nat.{◌-◌}
 use native.Mathlib.Omega.{arith}
-use lib.ListN.{length, get_or}
-use Rattle.token.proofs.Weights.{Weighing, weigh_start, weights_most, weigh_step, weigh_end}
+use lib.ListN.{get_or}
+use Rattle.token.proofs.Weights.{weigh_start, weights_most, weigh_step, weigh_end}
 use borrow.Author.Rules.{rules}
 use Rattle.token.proofs.count.weigh_all.Goals as goal
 

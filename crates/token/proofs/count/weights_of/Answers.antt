@@ -1,7 +1,6 @@
 use mathlib.Core.Path.{refl}
-use Prim.Native.Nat.{◌-◌, ◌≤◌}
 use native.Mathlib.Omega.{arith}
-use Rattle.token.proofs.Weights.{Filled, filled_none, filled_more, filled_all}
+use Rattle.token.proofs.Weights.{filled_none, filled_more, filled_all}
 use borrow.Author.Rules.{rules}
 use Rattle.token.proofs.count.weights_of.Goals as goal
 

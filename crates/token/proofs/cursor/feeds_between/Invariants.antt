@@ -1,10 +1,6 @@
-use mathlib.Core.Path.{◌≡◌, sym, ap, ◌∙◌}
+use mathlib.Core.Path.{◌≡◌}
 use Prim.Native.Nat.{◌+◌, ◌-◌, ◌≤◌}
-use native.Mathlib.Nat.{add-zero}
-use native.Mathlib.Omega.{arith}
 use Rattle.paper.specs.Lines.{line_at}
-use Rattle.token.proofs.Lines.{line_step}
-use borrow.Author.Rules.{rules}
 use Rattle.token.proofs.cursor.feeds_between.Given as goal
 
 abbrev pub invariant-loop-i : goal.invariant-loop-i

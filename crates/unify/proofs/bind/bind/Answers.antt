@@ -1,6 +1,5 @@
 use mathlib.Core.Path.{sym}
 use borrow.Author.Tests.{eq-eqb, ne_eqb}
-use borrow.Author.Rules.{rules}
 use Rattle.unify.proofs.bind.bind.Goals as goal
 
 pub returns-then-stack-at : goal.returns-then-stack-at

@@ -2,7 +2,6 @@ use mathlib.Core.Path.{ap}
 use Prim.Native.Nat.{ℕ, ◌%◌}
 use lib.Dec.{eqb}
 use Rattle.unify.specs.Bound.{constant_word}
-use borrow.Author.Rules.{rules}
 use Rattle.unify.proofs.bind.is_constant.Goals as goal
 
 pub returns : goal.returns

@@ -1,5 +1,4 @@
 use Rattle.unify.specs.Bound.{with_start}
-use borrow.Author.Rules.{rules}
 use Rattle.unify.proofs.bind.put_start.Goals as goal
 
 pub returns : goal.returns

@@ -1,5 +1,4 @@
 use Rattle.unify.specs.Bound.{start_of}
-use borrow.Author.Rules.{rules}
 use Rattle.unify.proofs.bind.start_of.Goals as goal
 
 pub returns : goal.returns

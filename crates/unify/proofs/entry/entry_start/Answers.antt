@@ -1,7 +1,5 @@
-use mathlib.Core.Path.{◌≡◌, sym, ◌∙◌, refl}
-use Prim.Native.Nat.{◌≤◌}
+use mathlib.Core.Path.{sym, ◌∙◌, refl}
 use native.Mathlib.Omega.{arith}
-use Rattle.unify.specs.Entries.{last_flag}
 use Rattle.unify.proofs.Entries.{flag_here, flag_below, flag_none}
 use borrow.Author.Rules.{rules}
 use Rattle.unify.proofs.entry.entry_start.Goals as goal

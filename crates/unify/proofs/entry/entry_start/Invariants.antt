@@ -1,9 +1,6 @@
-use mathlib.Core.Path.{◌≡◌, sym, ◌∙◌, refl}
+use mathlib.Core.Path.{◌≡◌}
 use Prim.Native.Nat.{◌≤◌}
-use native.Mathlib.Omega.{arith}
 use Rattle.unify.specs.Entries.{last_flag}
-use Rattle.unify.proofs.Entries.{flag_here, flag_below, flag_none}
-use borrow.Author.Rules.{rules}
 use Rattle.unify.proofs.entry.entry_start.Given as goal
 
 abbrev pub invariant-loop-i : goal.invariant-loop-i

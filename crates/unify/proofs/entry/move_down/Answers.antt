@@ -1,7 +1,5 @@
-use Prim.Native.Nat.{◌-◌, ◌≤◌}
 use native.Mathlib.Omega.{arith}
-use Rattle.unify.proofs.Moves.{Moving, moving_start, moving_more, moving_end}
-use borrow.Author.Rules.{rules}
+use Rattle.unify.proofs.Moves.{moving_start, moving_more, moving_end}
 use Rattle.unify.proofs.entry.move_down.Goals as goal
 
 pub loop-i-init : goal.loop-i-init

@@ -1,7 +1,5 @@
 use Prim.Native.Nat.{◌-◌, ◌≤◌}
-use native.Mathlib.Omega.{arith}
-use Rattle.unify.proofs.Moves.{Moving, moving_start, moving_more, moving_end}
-use borrow.Author.Rules.{rules}
+use Rattle.unify.proofs.Moves.{Moving}
 use Rattle.unify.proofs.entry.move_down.Given as goal
 
 abbrev pub invariant-loop-i : goal.invariant-loop-i

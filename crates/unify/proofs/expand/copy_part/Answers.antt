@@ -1,7 +1,5 @@
-use Prim.Native.Nat.{◌-◌}
 use native.Mathlib.Omega.{arith}
-use Rattle.unify.proofs.Pushes.{Copying, copy_start, copy_end, copy_flag, copy_more, copy_full}
-use borrow.Author.Rules.{rules}
+use Rattle.unify.proofs.Pushes.{copy_start, copy_end, copy_flag, copy_more, copy_full}
 use Rattle.unify.proofs.expand.copy_part.Goals as goal
 
 pub loop-i-init : goal.loop-i-init

@@ -1,7 +1,5 @@
 use Prim.Native.Nat.{◌-◌}
-use native.Mathlib.Omega.{arith}
-use Rattle.unify.proofs.Pushes.{Copying, copy_start, copy_end, copy_flag, copy_more, copy_full}
-use borrow.Author.Rules.{rules}
+use Rattle.unify.proofs.Pushes.{Copying}
 use Rattle.unify.proofs.expand.copy_part.Given as goal
 
 abbrev pub invariant-loop-i : goal.invariant-loop-i

@@ -2,7 +2,6 @@ use native.Mathlib.Omega.{arith}
 use lib.ListN.{take}
 use Rattle.unify.specs.Bound.{spread}
 use Rattle.unify.proofs.Pushes.{push_as, entry_full, entry_spread}
-use borrow.Author.Rules.{rules}
 use Rattle.unify.proofs.expand.expand.Goals as goal
 
 pub returns-in_default : goal.returns-in_default

@@ -1,7 +1,6 @@
 use mathlib.Core.Path.{sym, ◌∙◌}
 use lib.ListN.{take}
 use Rattle.unify.proofs.Matches.{token_constant, token_variable}
-use borrow.Author.Rules.{rules}
 use Rattle.unify.proofs.expand.expand_token.Goals as goal
 
 pub returns-then-is_constant : goal.returns-then-is_constant

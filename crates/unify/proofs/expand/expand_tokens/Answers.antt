@@ -1,13 +1,8 @@
 use mathlib.Core.Path.{◌∙◌}
-use Prim.Native.Nat.{◌-◌, ◌≤◌}
 use native.Mathlib.Omega.{arith}
-use lib.ListN.{length, take}
-use Rattle.unify.specs.Bound.{spread}
-use Rattle.unify.specs.Pushes.{Pushes}
-use Rattle.unify.specs.declared.Placed.TheVariants.{Upto}
+use lib.ListN.{take}
 use Rattle.unify.proofs.Matches.{spread_none}
 use Rattle.unify.proofs.Pushes.{push_none, push_as, spread_next, spread_full, spread_done}
-use borrow.Author.Rules.{rules}
 use Rattle.unify.proofs.expand.expand_tokens.Goals as goal
 
 pub loop-i-init : goal.loop-i-init

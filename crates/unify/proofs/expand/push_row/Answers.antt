@@ -1,5 +1,4 @@
 use Rattle.unify.proofs.Pushes.{push_as, entry_full, entry_then}
-use borrow.Author.Rules.{rules}
 use Rattle.unify.proofs.expand.push_row.Goals as goal
 
 pub returns-in_default : goal.returns-in_default

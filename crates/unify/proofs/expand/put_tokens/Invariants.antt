@@ -1,11 +1,7 @@
 use Prim.Native.Nat.{◌-◌, ◌≤◌}
-use native.Mathlib.Omega.{arith}
 use lib.ListN.{length, take}
 use Rattle.unify.specs.Pushes.{Pushes}
 use Rattle.unify.specs.declared.Placed.TheVariants.{Upto}
-use Rattle.unify.proofs.Pushes.{push_none}
-use Rattle.unify.proofs.Moves.{tokens_next, tokens_full, tokens_done}
-use borrow.Author.Rules.{rules}
 use Rattle.unify.proofs.expand.put_tokens.Given as goal
 
 abbrev pub invariant-loop-i : goal.invariant-loop-i

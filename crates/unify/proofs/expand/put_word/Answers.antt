@@ -1,6 +1,5 @@
 use native.Mathlib.Omega.{arith}
 use Rattle.unify.proofs.Pushes.{push_word, push_full}
-use borrow.Author.Rules.{rules}
 use Rattle.unify.proofs.expand.put_word.Goals as goal
 
 pub returns-then-stack-p : goal.returns-then-stack-p

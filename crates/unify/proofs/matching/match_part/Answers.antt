@@ -1,8 +1,5 @@
-use Prim.Native.Nat.{◌-◌}
 use native.Mathlib.Omega.{arith}
-use lib.ListN.{length}
-use Rattle.unify.proofs.Matches.{PartLeft, word_end, word_differs, word_agrees, part_start, part_flag, part_end, part_differs, part_more}
-use borrow.Author.Rules.{rules}
+use Rattle.unify.proofs.Matches.{word_end, word_differs, word_agrees, part_start, part_flag, part_end, part_differs, part_more}
 use Rattle.unify.proofs.matching.match_part.Goals as goal
 
 pub loop-i-init : goal.loop-i-init

@@ -1,8 +1,6 @@
 use Prim.Native.Nat.{◌-◌}
-use native.Mathlib.Omega.{arith}
 use lib.ListN.{length}
-use Rattle.unify.proofs.Matches.{PartLeft, word_end, word_differs, word_agrees, part_start, part_flag, part_end, part_differs, part_more}
-use borrow.Author.Rules.{rules}
+use Rattle.unify.proofs.Matches.{PartLeft}
 use Rattle.unify.proofs.matching.match_part.Given as goal
 
 abbrev pub invariant-loop-i : goal.invariant-loop-i

@@ -1,6 +1,5 @@
 use mathlib.Core.Path.{sym, ◌∙◌}
 use Rattle.unify.proofs.Matches.{token_constant, token_variable}
-use borrow.Author.Rules.{rules}
 use Rattle.unify.proofs.matching.match_token.Goals as goal
 
 pub returns-then-is_constant : goal.returns-then-is_constant

@@ -1,11 +1,5 @@
-use Prim.Native.Nat.{◌-◌, ◌≤◌}
 use native.Mathlib.Omega.{arith}
-use lib.ListN.{length, take}
-use Rattle.unify.specs.Bound.{spread}
-use Rattle.unify.specs.Matches.{Matches}
-use Rattle.unify.specs.declared.Matched.TheVariants.{Upto}
 use Rattle.unify.proofs.Matches.{match_none, match_as, spread_none, tokens_more, tokens_differ, tokens_end}
-use borrow.Author.Rules.{rules}
 use Rattle.unify.proofs.matching.match_tokens.Goals as goal
 
 pub loop-i-init : goal.loop-i-init

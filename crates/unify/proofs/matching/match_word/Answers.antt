@@ -1,6 +1,5 @@
 use native.Mathlib.Omega.{arith}
 use Rattle.unify.proofs.Matches.{word_end, word_differs, word_agrees}
-use borrow.Author.Rules.{rules}
 use Rattle.unify.proofs.matching.match_word.Goals as goal
 
 pub returns-then-stack-p : goal.returns-then-stack-p

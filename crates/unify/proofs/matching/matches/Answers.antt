@@ -1,6 +1,5 @@
 use mathlib.Core.Path.{sym, ◌∙◌}
 use Rattle.unify.proofs.Matches.{match_as, entry_other, entry_is}
-use borrow.Author.Rules.{rules}
 use Rattle.unify.proofs.matching.matches.Goals as goal
 
 pub returns-then-stack-at : goal.returns-then-stack-at

@@ -1,7 +1,6 @@
 use mathlib.Core.Path.{sym}
 use native.Mathlib.Omega.{arith}
 use Rattle.unify.proofs.Entries.{stops_end, stops_here}
-use borrow.Author.Rules.{rules}
 use Rattle.unify.proofs.matching.stops_at.Goals as goal
 
 pub returns-then-stack-p : goal.returns-then-stack-p

@@ -1,9 +1,6 @@
-use mathlib.Core.Path.{◌≡◌, refl, ap, ◌∙◌}
+use mathlib.Core.Path.{◌≡◌}
 use Prim.Native.Nat.{◌-◌, ◌≤◌}
-use native.Mathlib.Omega.{arith}
 use Rattle.paper.specs.Lines.{line_at}
-use Rattle.token.proofs.Lines.{line_few}
-use borrow.Author.Rules.{rules}
 use Rattle.token.proofs.cursor.Cursor.hop.Given as goal
 
 abbrev pub invariant-loop-at : goal.invariant-loop-at

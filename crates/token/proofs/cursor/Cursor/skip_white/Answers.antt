@@ -1,9 +1,5 @@
-use mathlib.Core.Path.{◌≡◌, sym, ◌∙◌}
-use Prim.Native.Nat.{◌-◌}
+use mathlib.Core.Path.{sym, ◌∙◌}
 use native.Mathlib.Omega.{arith}
-use lib.ListN.{length}
-use Rattle.paper.specs.Lines.{line_at}
-use Rattle.token.specs.Words.{past_gap}
 use Rattle.token.proofs.Classes.{is_white, not_white}
 use Rattle.token.proofs.Words.{gap_end, gap_stop, gap_step}
 use Rattle.token.proofs.Lines.{line_step, line_few}

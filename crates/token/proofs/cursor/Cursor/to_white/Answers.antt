@@ -1,7 +1,4 @@
-use mathlib.Core.Path.{◌≡◌, sym, ◌∙◌}
-use Prim.Native.Nat.{◌-◌}
-use lib.ListN.{length}
-use Rattle.token.specs.Words.{span_from}
+use mathlib.Core.Path.{sym, ◌∙◌}
 use Rattle.token.proofs.Classes.{is_white, not_white}
 use Rattle.token.proofs.Words.{span_end, span_stop, span_step}
 use borrow.Author.Rules.{rules}

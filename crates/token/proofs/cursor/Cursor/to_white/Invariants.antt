@@ -1,10 +1,7 @@
-use mathlib.Core.Path.{◌≡◌, sym, ◌∙◌}
+use mathlib.Core.Path.{◌≡◌}
 use Prim.Native.Nat.{◌-◌}
 use lib.ListN.{length}
 use Rattle.token.specs.Words.{span_from}
-use Rattle.token.proofs.Classes.{is_white, not_white}
-use Rattle.token.proofs.Words.{span_end, span_stop, span_step}
-use borrow.Author.Rules.{rules}
 use Rattle.token.proofs.cursor.Cursor.to_white.Given as goal
 
 abbrev pub invariant-loop-at : goal.invariant-loop-at
