@@ -1,4 +1,4 @@
-//! The built program on standard input. Skipped, with a line that says so, if `target/bin/janorembe` is not there.
+//! The built program on standard input. Skipped, with a line that says so, if `crates/janorembe/out/janorembe` is not there.
 
 mod common;
 
@@ -14,14 +14,16 @@ const WHOLE: &[u8] = b"$c ( ) wff $. $v x $. wx $f wff x $. ax $a wff ( x ) $.";
 
 /// The built program, if it is there.
 fn program() -> Option<PathBuf> {
-    let path = PathBuf::from(env!("CARGO_MANIFEST_DIR")).join("../target/bin/janorembe");
+    let path = PathBuf::from(env!("CARGO_MANIFEST_DIR")).join("../crates/janorembe/out/janorembe");
     if path.exists() {
         return Some(path);
     }
     // Not by `println!`, which the test harness keeps to itself when a test passes.
     let test = std::thread::current().name().unwrap_or("a test").to_owned();
-    let _ =
-        writeln!(std::io::stderr(), "SKIPPED {test}: target/bin/janorembe is not there (rt check janorembe builds it)");
+    let _ = writeln!(
+        std::io::stderr(),
+        "SKIPPED {test}: crates/janorembe/out/janorembe is not there (`rt run <stdin` in its crate builds it)"
+    );
     None
 }
 

@@ -106,23 +106,22 @@ fn input_buffer() -> [u8; 262144]
     [0; 262144]
 }
 
-fn work_area() -> [u32; 524288]
-    ensures { 524288 ≡ length result }
-{
-    [7; 524288]
-}
-
 fn frame_buffer() -> [u8; 2621440]
     ensures { 2621440 ≡ length result }
 {
     [0; 2621440]
 }
 
+// The same over a work area of the length that the program lends.
+fn run_over(cases: &[u8], work: &mut [u32; 524288], frames: &mut [u8], diags: &mut [u8]) {
+    run(cases, work, frames, diags);
+}
+
 fn main() {
     let mut input = input_buffer();
     let n = io::read_full(0, &mut input);
-    let mut work = work_area();
+    let mut work = [7u32; 524288];
     let mut frames = frame_buffer();
     let mut diags = [0u8; 1];
-    run(&input[..n], &mut work, &mut frames, &mut diags);
+    run_over(&input[..n], &mut work, &mut frames, &mut diags);
 }

@@ -7,7 +7,7 @@ ghost use Rattle.layout.specs.Cuts.{Within, span, Cuts};
 
 use stream::walk::{is_stub, u16_at, u32_at};
 
-/// The bytes of an offset or an end: `address-size` of the definitions.
+/// The bytes of an offset or an end: `address_size` of the definitions.
 pub const ADDRESS: usize = 4;
 
 /// The place after a part, or that there is none.

@@ -26,20 +26,13 @@ pub fn read_row(work: &[u32], n: usize, row: usize) -> Row
     }
 }
 
-/// A case that does not arise.
-pub fn unreachable() -> Owner
-    requires { ⊥ }
-{
-    Owner::Nothing
-}
-
 /// The label of the statement at `s`, which bears it, if that is the first to do so.
 pub fn check_label_dup(work: &[u32], n: usize, label: Atom, s: StatementOffset) -> Owner
     requires { Room work.now n × (label.0 < n) × Borne work.now n label.0 }
     ensures { Owns work.now n label.0 s.0 result }
 {
     let lookup::Owner::At(o) = lookup::lookup_label(work, n, label) else {
-        return unreachable();
+        unreachable!()
     };
     if o.0 == s.0 {
         return Owner::Own(label);

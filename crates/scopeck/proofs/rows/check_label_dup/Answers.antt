@@ -5,9 +5,6 @@ use Rattle.scopeck.proofs.rows.check_label_dup.Goals as goal
 pub unreachable-requires : goal.unreachable-requires
 unreachable-requires c = not_nobody c.requires.2 (rw c.in_default.is at c.lookup_label.ensures)
 
-pub returns-in_default : goal.returns-in_default
-returns-in_default c = absurd (not_nobody c.requires.2 (rw c.in_default.is at c.lookup_label.ensures))
-
 pub returns-then-o-s : goal.returns-then-o-s
 returns-then-o-s c = owns_by (rw c.in-At.is at c.lookup_label.ensures) (rw (eq-eqb _ _ c.if-o-s.true))
 
