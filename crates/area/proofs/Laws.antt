@@ -1,15 +1,15 @@
 -- One word stored: the same cell, another cell; and what two changes one after the other leave alone.
 -- Assumes nothing.
-use mathlib.Core.Path.{◌≡◌, refl, ap, ◌∙◌}
+use mathlib.Core.Path.{◌≡◌, refl, sym, ap, ◌∙◌}
 use mathlib.Core.Logic.{◌≢◌}
-use mathlib.Core.List.{List, [], ◌∷◌}
-use Prim.Native.Nat.{ℕ, suc, ◌+◌, ◌<◌, ◌≤◌, zero-le}
+use mathlib.Core.List.{List}
+use Prim.Native.Nat.{ℕ, ◌<◌, ◌≤◌, ◌-◌, zero-le}
 use native.Mathlib.Omega.{arith}
 use lib.ListN.{length, get_or, set, replicate, length-set}
+use borrow.Rule.Slice.PartMut.{put_mid}
+use Rattle.std.proofs.lemmas.List.{places, length-replicate, get_or-replicate, ext_get_or}
+use borrow.Author.Rules.{rules}
 use lib.Seq.{get_or-set_same, get_or-set_other}
-use lib.Dec.{eqb}
-use borrow.Author.Tests.{eqb-true}
-use Rattle.paper.proofs.Tests.{split, eqb_ne}
 use Rattle.area.specs.Cells.{word, Only, Cleared}
 
 pub word_same : (w : List ℕ) (i v : ℕ) → i < length w → word (set w i v) i ≡ v
@@ -47,35 +47,26 @@ only_wide h k x =
       above = λ i l. x.above i (omega arith);
     }
 
--- words from a up are cleared one by one
-pub clear_none : (a : ℕ) (w : List ℕ) → Cleared a a w w
-clear_none a w = record { only = only_none a a w; zeros = λ i h l. absurd (omega arith) }
-
-pub clear_more : {a e : ℕ} {w v : List ℕ} → a ≤ e → e < length v → Cleared a e w v → Cleared a (e + 1) w (set v e 0)
-clear_more {a} {e} {w} {v} h l x =
+-- the words from a up to e are filled with 0
+pub cleared_fill : (w : List ℕ) (a e : ℕ) {v : List ℕ} → a ≤ e → e ≤ length w → v ≡ replicate (e - a) 0 → Cleared a e w (put_mid a (e - a) w v)
+unfolding word
+cleared_fill w a e {v} h k p =
+    let n : length v ≡ e - a = ap length p ∙ length-replicate (e - a) 0 in
     record {
-      only = only_then (only_wide (omega arith) (omega arith) x.only) (only_set a (e + 1) v e 0 h (omega arith));
-      zeros = λ i b k. zero_at i b k;
+      only = record {
+        len = search (rules, places);
+        below = λ i l. search (rules, places);
+        above = λ i l. search (rules, places);
+      };
+      zeros = λ i l m. rw p (search (rules, places));
     }
-  where
-    zero_at : (i : ℕ) → a ≤ i → i < e + 1 → word (set v e 0) i ≡ 0
-    zero_at i b k =
-        split (eqb i e) (λ q. ap (λ j. word (set v e 0) j) (eqb-true i e q) ∙ word_same v e 0 l)
-        (λ q. let d : i ≢ e = eqb_ne q in word_other v e i 0 d ∙ x.zeros i b (omega (arith, d)))
 
 -- all words are 0
-pub all_zero : (w : List ℕ) → ((i : ℕ) → i < length w → word w i ≡ 0) → w ≡ replicate (length w) 0
-unfolding word
-all_zero [] h = refl
-all_zero (x ∷ w) h =
-    let y : x ≡ 0 = h 0 (omega arith) in
-    let z : w ≡ replicate (length w) 0 = all_zero w (λ i l. h (suc i) (omega (arith, l))) in
-    cc
-
 pub cleared_all : {w v : List ℕ} → Cleared 0 (length w) w v → v ≡ replicate (length w) 0
+unfolding word
 cleared_all {w} {v} x =
-    all_zero v (λ i l. x.zeros i zero-le (omega (arith, x.only.len)))
-    ∙ ap (λ n. replicate n 0) x.only.len
+    let n : length v ≡ length w = x.only.len in
+    ext_get_or 0 v _ (n ∙ sym (length-replicate (length w) 0)) (λ i l. x.zeros i zero-le (omega arith) ∙ sym (get_or-replicate (length w) i 0 0 (omega arith)))
 
 -- the word that code reads at a cell
 pub word_at : (w : List ℕ) {i j : ℕ} → i ≡ j → get_or w i 0 ≡ word w j

@@ -61,7 +61,7 @@ pub const MARK: usize = 6;
 // the end of what stands outermost
 pub const NO_END: u32 = 4294967295;
 
-// The cell of a word of a statement's row.
+/// The cell of a word of a statement's row.
 pub fn statement(row: usize, word: usize) -> usize
     requires { (row < 4294967296) × (word < 12) }
     ensures { result ≡ statement_cell row word }
@@ -69,7 +69,7 @@ pub fn statement(row: usize, word: usize) -> usize
     12 * row + word
 }
 
-// The cell of a word of a name.
+/// The cell of a word of a name.
 pub fn name(n: usize, row: usize, word: usize) -> usize
     requires { (n < 4294967296) × (row < 4294967296) × (word < 3) }
     ensures { result ≡ name_cell n row word }
@@ -77,7 +77,7 @@ pub fn name(n: usize, row: usize, word: usize) -> usize
     4 * n + 3 * row + word
 }
 
-// The cell of a bucket.
+/// The cell of a bucket.
 pub fn bucket(n: usize, row: usize) -> usize
     requires { (n < 4294967296) × (row < 4294967296) }
     ensures { result ≡ bucket_cell n row }
@@ -85,7 +85,7 @@ pub fn bucket(n: usize, row: usize) -> usize
     7 * n + row
 }
 
-// The cell of a word of a symbol.
+/// The cell of a word of a symbol.
 pub fn symbol(n: usize, row: usize, word: usize) -> usize
     requires { (n < 4294967296) × (row < 4294967296) × (word < 7) }
     ensures { result ≡ symbol_cell n row word }
@@ -93,7 +93,7 @@ pub fn symbol(n: usize, row: usize, word: usize) -> usize
     8 * n + 7 * row + word
 }
 
-// The cell of a math token.
+/// The cell of a math token.
 pub fn math(n: usize, row: usize) -> usize
     requires { (n < 4294967296) × (row < 4294967296) }
     ensures { result ≡ math_cell n row }
@@ -101,22 +101,17 @@ pub fn math(n: usize, row: usize) -> usize
     15 * n + row
 }
 
-// The words from a up to e are 0 afterwards, the others as before.
+/// The words from a up to e are 0 afterwards, the others as before.
 pub fn clear_part(work: &mut [u32], a: usize, e: usize)
     requires { (a ≤ e) × (e ≤ length work.old) }
     ensures { Cleared a e work.old work.new }
 {
-    let mut i = a;
-    while i < e {
-        work[i] = 0;
-        i += 1;
-    }
+    work[a..e].fill(0);
 }
 
-// Every word is 0 afterwards.
+/// Every word is 0 afterwards.
 pub fn clear(work: &mut [u32])
     ensures { work.new ≡ replicate (length work.old) 0 }
 {
-    let e = work.len();
-    clear_part(work, 0, e);
+    work.fill(0);
 }

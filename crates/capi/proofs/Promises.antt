@@ -3,37 +3,33 @@
 use mathlib.Core.Path.{◌≡◌, ap, ◌∙◌}
 use mathlib.Core.List.{List}
 use Prim.Native.Nat.{ℕ}
-use Rattle.paper.specs.Answer.{measured_number, number}
-use Rattle.paper.specs.Lookup.{found_number, found_place}
-use Rattle.paper.specs.Convert.{converted_number}
+use Rattle.paper.specs.Answer.{Answer, number}
+use Rattle.paper.specs.Lookup.{Found, found_number, found_place}
+use Rattle.paper.specs.Convert.{Converted, converted_number}
 use Rattle.paper.specs.declared.Setting.{Setting}
-use Rattle.paper.specs.declared.Measured.{Measured}
-use Rattle.paper.specs.declared.Answer.{Answer}
-use Rattle.paper.specs.declared.Found.{Found}
-use Rattle.paper.specs.declared.Converted.{Converted}
 use Rattle.layout.specs.Renewal.{Converts}
 use Rattle.catalogue.specs.Promise.{Measures, Writes, Looks}
-use Rattle.capi.specs.Promise.{setting_of, measured_words, written_words, converted_words, Gauged, Written, Looked, Changed}
+use Rattle.capi.specs.Promise.{setting_of, words, converted_words, Gauged, Written, Looked, Changed}
 
 -- ---- the measure
-pub gauged : {u : ℕ} {c : Setting} {t w w' a' : List ℕ} {m : Measured} {n : ℕ} → Measures c t w w' m → c ≡ setting_of u → (n ≡ measured_number m) × (a' ≡ measured_words m)
+pub gauged : {u : ℕ} {c : Setting} {t w w' a' : List ℕ} {m : Answer} {n : ℕ} → Measures c t w w' m → c ≡ setting_of u → (n ≡ number m) × (a' ≡ words m)
     → Gauged u t w w' a' n
 gauged {u} {c} {t} {w} {w'} {a'} {m} h q e =
     let g : Measures (setting_of u) t w w' m = rw q at h in
     record {
-      told = e.0 ∙ ap measured_number g.measured;
-      answer = e.1 ∙ ap measured_words g.measured;
+      told = e.0 ∙ ap number g.measured;
+      answer = e.1 ∙ ap words g.measured;
       work = g.work;
     }
 
 -- ---- the writer
 pub written : {u : ℕ} {c : Setting} {t w w' f f' d d' a' : List ℕ} {r : Answer} {n : ℕ} → Writes c t w w' f f' d d' r → c ≡ setting_of u
-    → (n ≡ number r) × (a' ≡ written_words r) → Written u t w w' f f' d d' a' n
+    → (n ≡ number r) × (a' ≡ words r) → Written u t w w' f f' d d' a' n
 written {u} {c} {t} {w} {w'} {f} {f'} {d} {d'} {a'} {r} h q e =
     let g : Writes (setting_of u) t w w' f f' d d' r = rw q at h in
     record {
       told = e.0 ∙ ap number g.answer;
-      answer = e.1 ∙ ap written_words g.answer;
+      answer = e.1 ∙ ap words g.answer;
       frames = g.frames;
       diags = g.diags;
       work = g.work;

@@ -1,25 +1,23 @@
 -- What the view of a record promises, for all inputs: the number that comes back, and the six numbers at exit.
 -- `f` is the frame stream, `p` the record's place, `v'` is `view` at exit. Any two results are equal.
-use Rattle.std.specs.Prelude.{◌≡◌, List, [], ◌∷◌, ℕ, ◌+◌, length}
+use Rattle.std.specs.Prelude.{◌≡◌, List, [], ◌∷◌, ℕ, ◌+◌, length, Option, Some, None}
 use Rattle.paper.specs.Lookup.{label_place}
 use Rattle.stream.specs.Fields.{label_at, kind_at, variables_at, mandatory_at, hypotheses_at}
-use Rattle.stream.specs.declared.field.Asked.{Asked}
-use Rattle.stream.specs.declared.field.Asked.TheVariants.{Number, Nothing}
 
 -- every number in a record is below 2^32, so that none is told apart
-abbrev pub told : Asked → ℕ
-told (Number n) = n
-told Nothing = 18446744073709551615
+abbrev pub told : Option ℕ → ℕ
+told (Some n) = n
+told None = 18446744073709551615
 
 -- a record that is not well framed has no kind
-abbrev pub view_number : Asked → ℕ
-view_number (Number k) = 0
-view_number Nothing = 10
+abbrev pub view_number : Option ℕ → ℕ
+view_number (Some k) = 0
+view_number None = 10
 
 -- where the label's bytes start, from the record's start
-abbrev pub label_start : Asked → ℕ
-label_start (Number k) = label_place k + 4
-label_start Nothing = 0
+abbrev pub label_start : Option ℕ → ℕ
+label_start (Some k) = label_place k + 4
+label_start None = 0
 
 -- kind, start and length of the label, V, M, hypothesis count
 abbrev pub six : List ℕ → ℕ → List ℕ

@@ -4,9 +4,8 @@
 
 ghost use Rattle.capi.specs.Promise.{Gauged, Written, Looked, Changed};
 
-use crate::numbers::{
-    lookup_number, lookup_place, setting_of, tell_converted, tell_measured, tell_written,
-};
+use crate::numbers::{setting_of, tell, tell_converted};
+use paper::told::{found_number, found_place};
 
 pub mod numbers;
 pub mod view;
@@ -21,9 +20,7 @@ pub extern "C" fn janorembe_measure(
 ) -> u32
     ensures { Gauged full text.now work.old work.new answer.new result }
 {
-    let setting = setting_of(full);
-    let measured = catalogue::measure(text, work, setting);
-    tell_measured(measured, answer)
+    tell(catalogue::measure(text, work, setting_of(full)), answer)
 }
 
 /// The number of `catalogue::write`; place, line, used lengths and number of frames go into `answer`.
@@ -39,8 +36,7 @@ pub extern "C" fn janorembe_write(
     ensures { Written full text.now work.old work.new frames.old frames.new diags.old diags.new answer.new result }
 {
     let setting = setting_of(full);
-    let written = catalogue::write(text, work, frames, diags, setting);
-    tell_written(written, answer)
+    tell(catalogue::write(text, work, frames, diags, setting), answer)
 }
 
 /// The number of `catalogue::lookup`; its place goes into `place`.
@@ -49,8 +45,8 @@ pub extern "C" fn janorembe_lookup(frames: &[u8], label: &[u8], place: &mut u64)
     ensures { Looked frames.now label.now place.new result }
 {
     let found = catalogue::lookup(frames, label);
-    *place = lookup_place(found);
-    lookup_number(found)
+    *place = found_place(found);
+    found_number(found)
 }
 
 /// The number of `catalogue::convert`; place and used bytes go into `answer`.
@@ -58,6 +54,5 @@ pub extern "C" fn janorembe_lookup(frames: &[u8], label: &[u8], place: &mut u64)
 pub extern "C" fn janorembe_convert(stream: &[u8], out: &mut [u8], answer: &mut [u64; 2]) -> u32
     ensures { Changed stream.now out.old out.new answer.new result }
 {
-    let converted = catalogue::convert(stream, out);
-    tell_converted(converted, answer)
+    tell_converted(catalogue::convert(stream, out), answer)
 }

@@ -3,37 +3,37 @@
 ghost use Rattle.std.specs.Prelude.{◌≡◌};
 ghost use Rattle.capi.specs.View.{told, view_number, label_start, Viewed};
 
-use stream::field::{Asked, label_at};
+use stream::field::label_at;
 use stream::view::facts_of;
 use stream::walk::label_place;
 
 /// A number that is asked for; the greatest of 64 bits if the record does not hold it.
-fn told(asked: Asked) -> u64
+fn told(asked: Option<usize>) -> u64
     ensures { result ≡ told asked }
 {
     match asked {
-        Asked::Number(n) => n as u64,
-        Asked::Nothing => 18446744073709551615,
+        Some(n) => n as u64,
+        None => u64::MAX,
     }
 }
 
 /// 0, or number 10 for a record that is not well framed.
-fn view_number(kind: Asked) -> u32
+fn view_number(kind: Option<usize>) -> u32
     ensures { result ≡ view_number kind }
 {
     match kind {
-        Asked::Number(_) => 0,
-        Asked::Nothing => 10,
+        Some(_) => 0,
+        None => 10,
     }
 }
 
 /// Where the label starts, from the record's first byte.
-fn label_start(kind: Asked) -> u64
+fn label_start(kind: Option<usize>) -> u64
     ensures { result ≡ label_start kind }
 {
     match kind {
-        Asked::Number(k) => (label_place(k) + 4) as u64,
-        Asked::Nothing => 0,
+        Some(k) => (label_place(k).unwrap_or(0) + 4) as u64,
+        None => 0,
     }
 }
 
@@ -44,18 +44,14 @@ pub extern "C" fn janorembe_view(frames: &[u8], place: u64, view: &mut [u64; 6])
 {
     let at = place as usize;
     let facts = facts_of(frames, at);
-    let kind = facts.kind;
-    let variables = facts.variables;
-    let mandatory = facts.mandatory;
-    let hypotheses = facts.hypotheses;
     let label = label_at(frames, at).len();
     *view = [
-        told(kind),
-        label_start(kind),
+        told(facts.kind),
+        label_start(facts.kind),
         label as u64,
-        told(variables),
-        told(mandatory),
-        told(hypotheses),
+        told(facts.variables),
+        told(facts.mandatory),
+        told(facts.hypotheses),
     ];
-    view_number(kind)
+    view_number(facts.kind)
 }

@@ -6,10 +6,9 @@ use Prim.Native.Nat.{ℕ, ◌+◌}
 use lib.ListN.{length, take, drop}
 use lib.Seq.{take_at}
 use Rattle.paper.specs.Reader.{given}
-use Rattle.paper.specs.Answer.{Streams, number, frames_used, measure, outcome, answer_of, answer, laid, frames_of, diags_of, frames_exit, diags_exit}
+use Rattle.paper.specs.Answer.{Answer, Streams, number, frames_used, measure, outcome, answer_of, answer, laid, frames_of, diags_of, frames_exit, diags_exit}
 use Rattle.paper.specs.declared.Setting.{Setting}
 use Rattle.paper.specs.declared.Setting.TheVariants.{Short, Full}
-use Rattle.paper.specs.declared.Answer.{Answer}
 use Rattle.paper.proofs.Alls.{All, all_none, all_more}
 use Rattle.paper.proofs.Table.{lent, Case, ◌gives◌, expected, operation, computed_as}
 use Rattle.paper.proofs.Bench as bench

@@ -7,20 +7,18 @@ use Prim.Native.Nat.{ℕ, ◌<◌, ◌≤◌}
 use native.Mathlib.Omega.{arith}
 use lib.ListN.{length}
 use borrow.Author.Tests.{lt-ltb, le-ltb}
+use Rattle.std.specs.Prelude.{Result, Ok, Err}
 use Rattle.paper.specs.Base.{find}
 use Rattle.paper.specs.Statements.{Statement}
 use Rattle.paper.specs.Reader.{given}
 use Rattle.paper.specs.Give.{Given, all_given}
 use Rattle.paper.specs.Records.{frame_stream, diag_stream}
-use Rattle.paper.specs.Answer.{crowded, frames_in, streams, measured, needs_of, written}
+use Rattle.paper.specs.Answer.{done, not_done, crowded, frames_in, streams, measured, written, answer_of}
 use Rattle.paper.specs.declared.Setting.{Setting}
 use Rattle.paper.specs.declared.StatementOffset.{StatementOffset}
 use Rattle.paper.specs.declared.Refusal.TheVariants.{ManyVariables, ShortFrames, ShortDiags}
-use Rattle.paper.specs.declared.Measured.TheVariants as lengths
-use Rattle.paper.specs.declared.Answer.TheVariants.{Done, Refused}
 use Rattle.theorems.proofs.Refusals.{fitting_fits}
-use Rattle.fold.specs.declared.all.Folded.{Folded}
-use Rattle.fold.specs.declared.all.Folded.TheVariants as folded
+use Rattle.fold.specs.declared.all.Streams.{Streams}
 use Rattle.fold.specs.declared.start.Started.{Started}
 use Rattle.fold.specs.Fold.{SomeWhole, Streamed, FoldsAll}
 use Rattle.fold.specs.Fold as fold
@@ -28,17 +26,17 @@ use Rattle.fold.specs.Start.{Held, Read, Starts}
 use Rattle.catalogue.specs.Streams.{Sized, sized, crowd, Sizes, Needed, Gives, Answered}
 
 -- ---- a fold that writes nothing
-sized_by : {c : Setting} {b b' o o' : List ℕ} {g : List Given} {r : Folded} → Streamed c b b' o o' g r → Sized c g r
+sized_by : {c : Setting} {b b' o o' : List ℕ} {g : List Given} {r : Result Streams StatementOffset} → Streamed c b b' o o' g r → Sized c g r
 sized_by {c} {g = g} (fold.streams {f} {d} e x y n) =
     let p : f ≡ length (frame_stream c g) = omega (arith, x.place) in
     let q : d ≡ length (diag_stream g) = omega (arith, y.place) in
     sized e p q n
 sized_by (fold.crowd x e) = crowd x e
 
-pub sizes_of : {c : Setting} {t w v b b' o o' : List ℕ} {n rows names : ℕ} {r : Folded} → FoldsAll c t w v b b' o o' n rows names r → Sizes c t w v n rows names r
+pub sizes_of : {c : Setting} {t w v b b' o o' : List ℕ} {n rows names : ℕ} {r : Result Streams StatementOffset} → FoldsAll c t w v b b' o o' n rows names r → Sizes c t w v n rows names r
 sizes_of z = record { sim = λ a. let x = z.sim a in (x.0, sized_by x.1) }
 
-pub whole_again : {c : Setting} {t w v u : List ℕ} {rows : ℕ} {s : Started} {r : Folded}
+pub whole_again : {c : Setting} {t w v u : List ℕ} {rows : ℕ} {s : Started} {r : Result Streams StatementOffset}
     → Starts t w v rows s → Sizes c t v u s.n rows s.names r → Read t w rows → SomeWhole t u s.n rows s.names
 whole_again a z x = record { of = x.of; holds = (z.sim (a.sim x.holds)).0 }
 
@@ -49,31 +47,31 @@ record Lengths (e : Setting) (g : List Given) (p q c : ℕ) : Type 0 where
   diags : q ≡ length (diag_stream g)
   count : c ≡ length (frames_in g)
 
-by_sizes : {e : Setting} {g : List Given} {p q c : ℕ} → Sized e g (folded.Streams p q c) → Lengths e g p q c
+by_sizes : {e : Setting} {g : List Given} {p q c : ℕ} → Sized e g (Ok (record { frames = p; diags = q; count = c })) → Lengths e g p q c
 by_sizes (sized e x y n) = record { few = e; frames = x; diags = y; count = n }
 
 -- ---- the measure: numbers 7 and 0
-needs_many : {c : Setting} (t : List ℕ) (g : List Given) {s : StatementOffset} → Sized c g (folded.TooMany s) → lengths.Refused (ManyVariables s.0) 0 ≡ needs_of t (measured c g)
+needs_many : {c : Setting} (t : List ℕ) (g : List Given) {s : StatementOffset} → Sized c g (Err s) → not_done (ManyVariables s.0) 0 ≡ answer_of t (measured c g)
 unfolding measured
 needs_many t g (crowd x e) = rw e
 
-needs_done : {e : Setting} (t : List ℕ) (g : List Given) {p q c : ℕ} → Lengths e g p q c → lengths.Needs p q c ≡ needs_of t (measured e g)
+needs_done : {e : Setting} (t : List ℕ) (g : List Given) {p q c : ℕ} → Lengths e g p q c → done p q c ≡ answer_of t (measured e g)
 unfolding measured
 needs_done t g s = rw (s.few, s.frames, s.diags, s.count)
 
 -- ---- the writer: number 7
-gives_many : {c : Setting} {t : List ℕ} (g : List Given) {f d : List ℕ} {s : StatementOffset} → Sized c g (folded.TooMany s) → Gives c t g f f d d (Refused (ManyVariables s.0) 0)
+gives_many : {c : Setting} {t : List ℕ} (g : List Given) {f d : List ℕ} {s : StatementOffset} → Sized c g (Err s) → Gives c t g f f d d (not_done (ManyVariables s.0) 0)
 unfolding written
 gives_many g (crowd x e) = record { answer = rw e; frames = rw e; diags = rw e }
 
 -- ---- numbers 8 and 9
-gives_short_frames : {e : Setting} {t : List ℕ} (g : List Given) {f d : List ℕ} {p q c : ℕ} → Lengths e g p q c → length f < p → Gives e t g f f d d (Refused (ShortFrames p) 0)
+gives_short_frames : {e : Setting} {t : List ℕ} (g : List Given) {f d : List ℕ} {p q c : ℕ} → Lengths e g p q c → length f < p → Gives e t g f f d d (not_done (ShortFrames p) 0)
 unfolding written
 gives_short_frames {e} {t} g {f} {d} s h =
     let a = lt-ltb (length f) (length (frame_stream e g)) (omega (arith, s.frames)) in
     rw s.frames (record { answer = rw (s.few, a); frames = rw (s.few, a); diags = rw (s.few, a) })
 
-gives_short_diags : {e : Setting} {t : List ℕ} (g : List Given) {f d : List ℕ} {p q c : ℕ} → Lengths e g p q c → p ≤ length f → length d < q → Gives e t g f f d d (Refused (ShortDiags q) 0)
+gives_short_diags : {e : Setting} {t : List ℕ} (g : List Given) {f d : List ℕ} {p q c : ℕ} → Lengths e g p q c → p ≤ length f → length d < q → Gives e t g f f d d (not_done (ShortDiags q) 0)
 unfolding written
 gives_short_diags {e} {t} g {f} {d} s h k =
     let a = le-ltb (length f) (length (frame_stream e g)) (omega (arith, s.frames)) in
@@ -81,8 +79,8 @@ gives_short_diags {e} {t} g {f} {d} s h k =
     rw s.diags (record { answer = rw (s.few, a, b); frames = rw (s.few, a, b); diags = rw (s.few, a, b) })
 
 -- ---- number 0
-gives_done : {c : Setting} {t : List ℕ} (g : List Given) {f f' d d' : List ℕ} {p q i : ℕ} {r : Folded} → Lengths c g p q i → p ≤ length f → q ≤ length d → Streamed c f f' d d' g r
-    → Gives c t g f f' d d' (Done p q i)
+gives_done : {c : Setting} {t : List ℕ} (g : List Given) {f f' d d' : List ℕ} {p q i : ℕ} {r : Result Streams StatementOffset} → Lengths c g p q i → p ≤ length f → q ≤ length d → Streamed c f f' d d' g r
+    → Gives c t g f f' d d' (done p q i)
 gives_done g {f} {d = d} s h k (fold.crowd x e) = let z : none ≡ some x = sym s.few ∙ e in let y : ◌≡◌ {A = ℕ} 0 1 = cc in absurd (omega (arith, y))
 gives_done {c} {t} g {f} {d = d} s h k (fold.streams e x y n) =
     let w : written c g (length f) (length d) ≡ given (streams c g) =
@@ -95,26 +93,26 @@ gives_done {c} {t} g {f} {d = d} s h k (fold.streams e x y n) =
 
 -- ---- the answers
 module _ {e : Setting} {t w v u : List ℕ} {rows : ℕ} {s : Started} (a : Starts t w v rows s) where
-  module _ {o : StatementOffset} (z : Sizes e t v u s.n rows s.names (folded.TooMany o)) where
-    pub needs_refused : Needed e t w rows (lengths.Refused (ManyVariables o.0) 0)
+  module _ {o : StatementOffset} (z : Sizes e t v u s.n rows s.names (Err o)) where
+    pub needs_refused : Needed e t w rows (not_done (ManyVariables o.0) 0)
     needs_refused = record { sim = λ {l} h. needs_many t (all_given l) (z.sim (a.sim h)).1 }
 
-    pub many : {f d : List ℕ} → Answered e t w rows f f d d (Refused (ManyVariables o.0) 0)
+    pub many : {f d : List ℕ} → Answered e t w rows f f d d (not_done (ManyVariables o.0) 0)
     many = record { sim = λ {l} h. gives_many (all_given l) (z.sim (a.sim h)).1 }
 
-  module _ {p q c : ℕ} (z : Sizes e t v u s.n rows s.names (folded.Streams p q c)) where
+  module _ {p q c : ℕ} (z : Sizes e t v u s.n rows s.names (Ok (record { frames = p; diags = q; count = c }))) where
     lengths_of : {l : List Statement} → Held t w rows l → Lengths e (all_given l) p q c
     lengths_of h = by_sizes (z.sim (a.sim h)).1
 
-    pub needs_given : Needed e t w rows (lengths.Needs p q c)
+    pub needs_given : Needed e t w rows (done p q c)
     needs_given = record { sim = λ {l} h. needs_done t (all_given l) (lengths_of h) }
 
-    pub short_frames : {f d : List ℕ} → length f < p → Answered e t w rows f f d d (Refused (ShortFrames p) 0)
+    pub short_frames : {f d : List ℕ} → length f < p → Answered e t w rows f f d d (not_done (ShortFrames p) 0)
     short_frames h = record { sim = λ {l} x. gives_short_frames (all_given l) (lengths_of x) h }
 
-    pub short_diags : {f d : List ℕ} → p ≤ length f → length d < q → Answered e t w rows f f d d (Refused (ShortDiags q) 0)
+    pub short_diags : {f d : List ℕ} → p ≤ length f → length d < q → Answered e t w rows f f d d (not_done (ShortDiags q) 0)
     short_diags h k = record { sim = λ {l} x. gives_short_diags (all_given l) (lengths_of x) h k }
 
-    pub done : {f f' d d' x : List ℕ} {r : Folded} → p ≤ length f → q ≤ length d → FoldsAll e t u x f f' d d' s.n rows s.names r
-        → Answered e t w rows f f' d d' (Done p q c)
-    done h k y = record { sim = λ {l} i. gives_done (all_given l) (lengths_of i) h k (y.sim (z.sim (a.sim i)).0).1 }
+    pub all_done : {f f' d d' x : List ℕ} {r : Result Streams StatementOffset} → p ≤ length f → q ≤ length d → FoldsAll e t u x f f' d d' s.n rows s.names r
+        → Answered e t w rows f f' d d' (done p q c)
+    all_done h k y = record { sim = λ {l} i. gives_done (all_given l) (lengths_of i) h k (y.sim (z.sim (a.sim i)).0).1 }

@@ -1,15 +1,12 @@
 -- What follows from the promises: one result for each input, a writer that does as was measured, the tables of `paper`,
 -- demand 3 and A13, of the operations themselves.
 -- `c` is the setting; `w`, `f` and `d` are work area, frame and diagnostics buffer at entry, with a mark at exit.
-use Rattle.std.specs.Prelude.{◌≡◌, List, map, ℕ, ◌≤◌, length, take}
-use Rattle.paper.specs.Answer.{Streams, measured_number, measured_place, frames_needed, diags_needed, measured_count, number, place, frames_used, diags_used, laid}
+use Rattle.std.specs.Prelude.{◌≡◌, Ok, Err, List, map, ℕ, ◌≤◌, length, take}
+use Rattle.paper.specs.Answer.{Answer, done, Streams, number, place, frames_used, diags_used, count, laid}
 use Rattle.paper.specs.declared.Setting.{Setting}
-use Rattle.paper.specs.declared.Refusal.{Refusal}
-use Rattle.paper.specs.declared.Measured.{Measured}
-use Rattle.paper.specs.declared.Measured.TheVariants as lengths
-use Rattle.paper.specs.declared.Answer.{Answer}
-use Rattle.paper.specs.declared.Answer.TheVariants.{Done, Refused}
-use Rattle.paper.specs.declared.Found.{Found}
+use Rattle.paper.specs.declared.Refused.{Refused}
+use Rattle.paper.specs.declared.Lengths.{Lengths}
+use Rattle.paper.specs.Lookup.{Found}
 use Rattle.paper.proofs.Alls.{All}
 use Rattle.paper.proofs.Table.{lent, result, Case, ◌gives◌, expected, computed_as}
 use Rattle.paper.proofs.Measures as measures
@@ -22,7 +19,7 @@ use Rattle.catalogue.specs.Promise.{Measures, Writes, Looks}
 -- ---- two runs on the same inputs end alike
 abbrev pub OneMeasure : Type 0
 OneMeasure =
-    (c : Setting) (t w w₁ w₂ : List ℕ) (r s : Measured)
+    (c : Setting) (t w w₁ w₂ : List ℕ) (r s : Answer)
     → Measures c t w w₁ r
     → Measures c t w w₂ s
     → ◌≡◌ {A = unique.Measurement} (record { measured = r; work = w₁ }) (record { measured = s; work = w₂ })
@@ -41,13 +38,13 @@ abbrev pub OneFound : Type 0
 OneFound = (f l : List ℕ) (r s : Found) → Looks f l r → Looks f l s → r ≡ s
 
 -- ---- a run of the measure, and a run of the writer on the same text with a work area of the same length
-pub record AsMeasured (f d : List ℕ) (m : Measured) (r : Answer) : Type 0 where
-  pub done : {x y n : ℕ} → m ≡ lengths.Needs x y n → x ≤ length f → y ≤ length d → r ≡ Done x y n
-  pub refused : {x : Refusal} {l : ℕ} → m ≡ lengths.Refused x l → r ≡ Refused x l
+pub record AsMeasured (f d : List ℕ) (m : Answer) (r : Answer) : Type 0 where
+  pub done : {s : Lengths} → m ≡ Ok s → s.frames ≤ length f → s.diags ≤ length d → r ≡ Ok s
+  pub refused : {x : Refused} → m ≡ Err x → r ≡ Err x
 
 abbrev pub WritesAsMeasured : Type 0
 WritesAsMeasured =
-    (c : Setting) (t v v' w w' f f' d d' : List ℕ) (m : Measured) (r : Answer)
+    (c : Setting) (t v v' w w' f f' d d' : List ℕ) (m : Answer) (r : Answer)
     → Measures c t v v' m
     → Writes c t w w' f f' d d' r
     → length w ≡ length v
@@ -65,13 +62,13 @@ Holds c x =
 abbrev pub TablesHold : Type 0
 TablesHold = (c : Setting) (l : List Case) → map (computed_as c) l ≡ map expected l → All (Holds c) l
 
-abbrev pub RunsMeasure : Setting → measures.Case → List ℕ → Measured → Type 0
+abbrev pub RunsMeasure : Setting → measures.Case → List ℕ → Answer → Type 0
 RunsMeasure c (measures.measured_in t w x) w' m = Measures c t w w' m
 
 abbrev pub HoldsMeasure : Setting → measures.Case → Type 0
 HoldsMeasure c x =
-    (w' : List ℕ) (m : Measured) → RunsMeasure c x w' m
-    → measures.sizes (measured_number m) (measured_place m) (frames_needed m) (diags_needed m) (measured_count m) w' ≡ measures.expected x
+    (w' : List ℕ) (m : Answer) → RunsMeasure c x w' m
+    → measures.sizes (number m) (place m) (frames_used m) (diags_used m) (count m) w' ≡ measures.expected x
 
 abbrev pub MeasureTablesHold : Type 0
 MeasureTablesHold = (c : Setting) (l : List measures.Case) → map (measures.computed c) l ≡ map measures.expected l → All (HoldsMeasure c) l
@@ -79,10 +76,10 @@ MeasureTablesHold = (c : Setting) (l : List measures.Case) → map (measures.com
 -- ---- demand 3: two runs, on a text and on the text with a group blanked
 pub record Without (f f₁ f₂ d d₁ d₂ : List ℕ) (p q : ℕ) (r s : Answer) : Type 0 where
   pub streams : Streams
-  pub was : r ≡ Done (length streams.frames) (length streams.diags) streams.count
+  pub was : r ≡ done (length streams.frames) (length streams.diags) streams.count
   pub frames_were : f₁ ≡ laid f 0 streams.frames
   pub diags_were : d₁ ≡ laid d 0 streams.diags
-  pub is : s ≡ Done (length (taken_out p q streams.frames)) (length (taken_out p q streams.diags)) (records_in (taken_out p q streams.frames))
+  pub is : s ≡ done (length (taken_out p q streams.frames)) (length (taken_out p q streams.diags)) (records_in (taken_out p q streams.frames))
   pub frames_are : f₂ ≡ laid f 0 (taken_out p q streams.frames)
   pub diags_are : d₂ ≡ laid d 0 (taken_out p q streams.diags)
 

@@ -1,14 +1,11 @@
 -- What measure, writer and look-up promise, for all inputs.
 -- `c` is the setting, `t` the text; `w`, `f` and `d` are work area, frame and diagnostics buffer at entry, `w'`, `f'` and `d'` at exit.
 use Rattle.std.specs.Prelude.{◌≡◌, List, ℕ, length}
-use Rattle.paper.specs.Answer.{measure, answer, frames_exit, diags_exit, work_exit}
-use Rattle.paper.specs.Lookup.{look_up}
+use Rattle.paper.specs.Answer.{Answer, measure, answer, frames_exit, diags_exit, work_exit}
+use Rattle.paper.specs.Lookup.{Found, look_up}
 use Rattle.paper.specs.declared.Setting.{Setting}
-use Rattle.paper.specs.declared.Measured.{Measured}
-use Rattle.paper.specs.declared.Answer.{Answer}
-use Rattle.paper.specs.declared.Found.{Found}
 
-pub record Measures (c : Setting) (t w w' : List ℕ) (r : Measured) : Type 0 where
+pub record Measures (c : Setting) (t w w' : List ℕ) (r : Answer) : Type 0 where
   pub measured : r ≡ measure c t (length w)
   pub work : w' ≡ work_exit w
 

@@ -6,23 +6,18 @@ ghost use Rattle.layout.specs.Renewal.{Converts};
 ghost use Rattle.catalogue.specs.Promise.{Measures, Writes, Looks};
 
 use crate::streams::{answer_read, measure_read};
-use paper::{Answer, Converted, Found, Measured, Reading, Setting};
+use paper::{Answer, Converted, Found, Setting};
 
 pub mod streams;
 
 /// Reads and checks the text: the bytes of both streams and the number of frames. The work area is zeros at exit.
-pub fn measure(text: &[u8], work: &mut [u32], setting: Setting) -> Measured
+pub fn measure(text: &[u8], work: &mut [u32], setting: Setting) -> Answer
     ensures { Measures setting text.now work.old work.new result }
 {
-    match reader::read(text, work) {
-        Reading::Unread(refusal, line) => Measured::Refused(refusal, line),
-        Reading::Read(rows, _) => {
-            let needs = measure_read(text, work, rows, setting);
-            let words = work.len();
-            area::clear_part(work, 0, words);
-            needs
-        }
-    }
+    let read = reader::read(text, work)?;
+    let needs = measure_read(text, work, read.rows, setting);
+    area::clear(work);
+    needs
 }
 
 /// Reads the text, checks and frames it, as the setting says, whether it was measured or not. On refusal both output buffers are unchanged;
@@ -36,14 +31,10 @@ pub fn write(
 ) -> Answer
     ensures { Writes setting text.now work.old work.new frames.old frames.new diags.old diags.new result }
 {
-    match reader::read(text, work) {
-        Reading::Unread(refusal, line) => Answer::Refused(refusal, line),
-        Reading::Read(rows, _) => {
-            let answer = answer_read(text, work, frames, diags, rows, setting);
-            area::clear(work);
-            answer
-        }
-    }
+    let read = reader::read(text, work)?;
+    let answer = answer_read(text, work, frames, diags, read.rows, setting);
+    area::clear(work);
+    answer
 }
 
 /// The offset of the record that bears a label, byte by byte; or the first record that is no record.

@@ -3,7 +3,7 @@
 use mathlib.Core.Path.{◌≡◌, refl, sym, ap, ◌∙◌}
 use mathlib.Core.Bool.{Bool, true}
 use mathlib.Core.List.{List, [], ◌∷◌, ◌++◌, map, append-nil}
-use Prim.Native.Nat.{ℕ, zero, suc, ◌+◌, ◌-◌, ◌<◌, suc-le-suc}
+use Prim.Native.Nat.{ℕ, zero, suc, ◌+◌, ◌-◌, ◌<◌, ◌≤◌, suc-le-suc}
 use native.Mathlib.Nat.{le_refl}
 use native.Mathlib.Omega.{arith}
 use lib.ListN.{length, get_or, take, drop, replicate, length-append, length-replicate}
@@ -21,8 +21,8 @@ use Rattle.token.specs.declared.cursor.Cursor.{Cursor}
 use Rattle.token.proofs.Words.{tokens_end}
 use Rattle.token.proofs.Parts.{tokens_part}
 use Rattle.reader.specs.Passed.{Passed, Shows, spoilt, Refuses}
-use Rattle.checks.specs.Visible.{visible_from, clean, Calm, First}
-use Rattle.checks.proofs.Each.{Left}
+use Rattle.checks.specs.Visible.{visible_from, clean, Calm, First, Left}
+use Rattle.checks.proofs.Each.{left_none}
 
 -- ---- what a look for the next token passed
 visible_past : {q : List ℕ} {i e : ℕ} {p : Place} {m : List Token} → Passed q i e outside m p → visible_from q i ≡ m ++ visible (tokens_from q e) p
@@ -115,3 +115,10 @@ toks_moved q k =
 pub math_part : (q : List ℕ) (k : ℕ) → visible (toks q k) outside ≡ map (move k) (visible_from q 0)
 unfolding visible_from
 math_part q k = ap (λ (l : List Token). visible l outside) (toks_moved q k) ∙ visible_move k (tokens_from q 0) outside
+
+-- no more tokens, or a comment that is refused: all tokens of a calm part are done
+pub none_more : {q : List ℕ} {c i : ℕ} → Left q c i → Passed q c (length q) outside [] outside → length (visible_from q 0) ≤ i
+none_more l h = left_none l (none_of h)
+
+pub none_refused : {q : List ℕ} {c i m : ℕ} {x : Refusal} → Calm q → Left q c i → Refuses q c x m → length (visible_from q 0) ≤ i
+none_refused a l h = left_none l (refused_none h (left_calm a l))

@@ -2,7 +2,7 @@
 -- Assumes nothing.
 use mathlib.Core.Path.{◌≡◌, refl, sym, ap, ◌∙◌}
 use mathlib.Core.List.{List, [], ◌∷◌, ◌++◌, append_assoc, append-nil}
-use Prim.Native.Nat.{ℕ, zero, suc, ◌+◌, ◌<◌, ◌≤◌}
+use Prim.Native.Nat.{ℕ, zero, suc, ◌+◌, ◌<◌, ◌≤◌, ◌^◌}
 use native.Mathlib.Nat.{add-zero, add-suc, suc-add}
 use native.Mathlib.Numerals.{add-one}
 use native.Mathlib.Omega.{arith}
@@ -16,8 +16,10 @@ use Rattle.paper.specs.Names.{owner}
 use Rattle.paper.specs.State.{Nested, active_nested}
 use Rattle.paper.specs.Checks.{Diag, each, no_token, Verdict, against, record_it, clash, verdict, verdict_diags, recorded_by, records, nested_records, nested_diags}
 use Rattle.paper.proofs.Lists.{keep_append}
-use Rattle.token.specs.Words.{token_at}
-use Rattle.checks.specs.Visible.{visible_from, First}
+use Rattle.token.specs.Words.{token_at, Lined}
+use Rattle.token.specs.declared.cursor.Cursor.{Cursor}
+use Rattle.token.proofs.Lines.{line_start}
+use Rattle.checks.specs.Visible.{visible_from, Calm, First, Left, Going}
 
 pub each_snoc : (f : ℕ → Token → List Diag) (l : List Token) (x : Token) (i : ℕ) → each f (l ++ (x ∷ [])) i ≡ each f l i ++ f (i + length l) x
 unfolding each
@@ -51,10 +53,6 @@ drop_first (x ∷ m) r y (suc i) e =
     let q : i + 1 ≡ suc i = omega arith in
     (omega (arith, p.0), p.1, rw add-one (rw q at p.2))
 
--- ---- i tokens of the part q are done, and those from the place c on are left
-pub record Left (q : List ℕ) (c i : ℕ) : Type 0 where
-  pub rest : drop i (visible_from q 0) ≡ visible_from q c
-
 pub left_start : (q : List ℕ) → Left q 0 0
 left_start q = record { rest = refl }
 
@@ -68,14 +66,21 @@ take_one {q} {c} {i} {s} {e} h f =
     let d = drop_first (visible_from q 0) (visible_from q e) (token_at q s e) i (h.rest ∙ f.rest) in
     record { inside = d.0; is = d.1; left = record { rest = d.2 } }
 
-pub left_less : {q : List ℕ} {c s e : ℕ} → First q c s e → length (visible_from q e) < length (visible_from q c)
-left_less f = omega (arith, ap length f.rest)
-
 none_left : (m : List Token) (i : ℕ) → drop i m ≡ [] → length m ≤ i
 none_left m i e = omega (arith, length-drop i m, ap length e)
 
 pub left_none : {q : List ℕ} {c i : ℕ} → Left q c i → visible_from q c ≡ [] → length (visible_from q 0) ≤ i
 left_none {q} {c} {i} h e = none_left (visible_from q 0) i (h.rest ∙ e)
+
+-- ---- going over the tokens, one by one
+pub going_start : {q : List ℕ} → Calm q → length (visible_from q 0) < 2 ^ 60 → Going q (record { at = 0; line = 1 }) 0
+going_start a h = record { left = left_start _; lined = line_start _; calm = a; few = h }
+
+pub going_few : {q : List ℕ} {c : Cursor} {i s e : ℕ} → Going q c i → First q c.at s e → i < 2 ^ 60
+going_few g f = omega (arith, (take_one g.left f).inside, g.few)
+
+pub going_on : {q : List ℕ} {c d : Cursor} {i s : ℕ} → Going q c i → First q c.at s d.at → Lined q d → Going q d (i + 1)
+going_on g f h = record { left = (take_one g.left f).left; lined = h; calm = g.calm; few = g.few }
 
 -- ---- tokens of a nested `$v`
 pub records_snoc : (w : List Statement) (e : ℕ) (l : List Token) (x : Token) (known : List Nested)

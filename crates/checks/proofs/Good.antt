@@ -1,15 +1,17 @@
 -- Tokens of a `$e`, `$a` or `$p` that get no diagnostic, one and then all of a statement.
 -- Assumes nothing.
-use mathlib.Core.Path.{◌≡◌, refl}
+use mathlib.Core.Path.{◌≡◌, refl, sym}
+use mathlib.Core.Bool.{true}
 use mathlib.Core.List.{List}
 use Prim.Native.Nat.{ℕ, ◌+◌, ◌<◌, ◌≤◌}
 use native.Mathlib.Omega.{arith}
 use borrow.Author.Tests.{ne_eqb}
 use Rattle.paper.specs.declared.Atom.{Atom}
 use Rattle.paper.specs.declared.StatementRow.{StatementRow}
+use Rattle.paper.proofs.Tests.{clash}
 use Rattle.area.specs.Cells.{math_cell, word}
 use Rattle.slots.specs.Slots.{float_slot, Sensed}
-use Rattle.slots.specs.declared.FloatSlot.TheVariants as floating
+use Rattle.std.specs.Prelude as code
 use Rattle.slots.specs.declared.CheckedToken.TheVariants as checked
 use Rattle.checks.specs.Tokens.{Good}
 use Rattle.checks.specs.Walks.{AllGood}
@@ -21,8 +23,10 @@ use Rattle.checks.proofs.OverRows.{InvEap, eap_start, eap_step, eap_end}
 pub good_constant : {w : List ℕ} {n a s i : ℕ} {b : Atom} → Sensed w n a s (checked.Constant b) → Good w n a s i
 good_constant e = λ out at. eap_one e refl (omega arith, told_none out at)
 
-pub good_variable : {w : List ℕ} {n a s i : ℕ} {b : Atom} {r : StatementRow} → Sensed w n a s (checked.Variable b) → floating.At r ≡ float_slot w n a s → (i ≡ 0 → ⊥) → Good w n a s i
-good_variable {i = i} e f z = λ out at. eap_one e f (omega arith, rw (ne_eqb i 0 z) (told_none out at))
+pub good_variable : {w : List ℕ} {n a s i : ℕ} {b : Atom} {f : code.Option StatementRow} → Sensed w n a s (checked.Variable b) → f ≡ float_slot w n a s
+    → code.is_some f ≡ true → (i ≡ 0 → ⊥) → Good w n a s i
+good_variable {i = i} {f = code.Some r} e g o z = λ out at. eap_one e g (omega arith, rw (ne_eqb i 0 z) (told_none out at))
+good_variable {f = code.None} e g o z = absurd (clash (sym o))
 
 -- ---- those up to i
 abbrev pub InvGood : List ℕ → ℕ → ℕ → ℕ → ℕ → ℕ → Type 0

@@ -14,24 +14,20 @@ use Rattle.paper.specs.Tokens.{Token}
 use Rattle.paper.specs.Statements.{Statement}
 use Rattle.paper.specs.Names.{owner, Declared, global}
 use Rattle.paper.specs.State.{Nested, Hyp, State, active_nested, active_hyp, nested_of, float_of, view, sense, Sense}
-use Rattle.paper.specs.Checks.{Diag, token, check_label, clash, redeclared, by_known, by_declared, verdict, verdict_diags, records, against, record_it, typecode_diags, variable_diags, float_diags, if_none, check_float}
+use Rattle.paper.specs.Checks.{Diag, diag, token, check_label, clash, redeclared, by_known, by_declared, verdict, verdict_diags, records, against, record_it, typecode_diags, variable_diags, float_diags, if_none, check_float}
 use Rattle.paper.specs.Records.{diag_record}
 use Rattle.paper.proofs.Tests.{split, eqb_ne}
 use Rattle.area.specs.Cells.{statement_cell, symbol_cell, word}
 use Rattle.reader.specs.Rows.{stmt}
 use Rattle.nameck.specs.Named.{Named}
 use Rattle.nameck.specs.Lookups.{owner_answer, global_answer, Owned, DeclaredBy}
-use Rattle.nameck.specs.declared.lookup.Owner.{Owner}
 use Rattle.nameck.specs.declared.lookup.Global.{Global}
-use Rattle.stream.specs.Wrote.{Wrote, WroteOrKept}
-use Rattle.stream.specs.Diagnostic.{diagnostic}
+use Rattle.stream.specs.Wrote.{Wrote}
 use Rattle.stream.proofs.Wrote.{wrote_as}
-use Rattle.stream.proofs.Records.{wrote_diag}
 use Rattle.paper.specs.declared.TokenOffset.{TokenOffset}
 use Rattle.paper.specs.declared.StatementRow.{StatementRow}
-use Rattle.slots.specs.declared.FloatSlot.{FloatSlot}
-use Rattle.slots.specs.declared.FloatSlot.TheVariants as floating
-use Rattle.slots.specs.declared.MarkSlot.{MarkSlot}
+use Rattle.paper.specs.declared.StatementOffset.{StatementOffset}
+use Rattle.paper.specs.declared.TokenIndex.{TokenIndex}
 use Rattle.slots.specs.declared.CheckedToken.{CheckedToken}
 use Rattle.slots.specs.Kept.{Room}
 use Rattle.slots.specs.Slots.{nested_slot, nested_at, float_slot, float_at, with_nested, Floats, Atomic, Sensed}
@@ -40,21 +36,20 @@ use Rattle.slots.proofs.Kept.{kept_none}
 use Rattle.slots.proofs.Slots.{by_float, kept_nested, nests_put}
 use Rattle.slots.proofs.Marks.{kept_mark, marks_see}
 use Rattle.paper.specs.Checks as paper
-use Rattle.checks.specs.declared.Verdict.{Verdict}
-use Rattle.checks.specs.declared.Verdict.TheVariants as verdict-case
-use Rattle.checks.specs.declared.Earlier.{Earlier}
-use Rattle.checks.specs.declared.Earlier.TheVariants as earlier
-use Rattle.checks.specs.Found.{sense_of, label_by, clash_by, redeclared_by, verdict_by, verdict_is, float_by, symbol_by, disjoint_by}
+use Rattle.std.specs.Prelude as code
+use Rattle.checks.specs.declared.Breach.{Breach}
+use Rattle.checks.specs.Breach.{number}
+use Rattle.checks.specs.Found.{sense_of, label_by, found_by, redeclared_by, against_by, verdict_is, symbol_by, disjoint_by}
 use Rattle.checks.specs.Tokens.{Clashes, Outer, Judged, NestedToken, Sees, EapToken, DvToken, earlier_slot, Float, Label}
 use Rattle.checks.proofs.Told.{told_then}
-use Rattle.checks.proofs.Found.{label_is, clash_is, redeclared_is, verdict_by_is, sense_checked, symbol_is, disjoint_is, float_at_is, told_length, none_told}
+use Rattle.checks.proofs.Found.{label_is, clash_is, redeclared_is, against_by_is, sense_checked, symbol_is, disjoint_is, float_at_is, told_length, none_told}
 
 -- the bytes of diagnostics that are the same
 pub same_told : {out out' : List ℕ} {at q : ℕ} {d e : List Diag} → Wrote out out' at q (gather diag_record d) → e ≡ d → Wrote out out' at q (gather diag_record e)
 same_told w p = wrote_as w (ap (gather diag_record) p)
 
 -- ---- labels
-pub label_one : {w out out' : List ℕ} {n at q a s : ℕ} {o : Owner} → Owned w n a o → (q ≤ at + 18) × Wrote out out' at q (gather diag_record (label_by o s))
+pub label_one : {w out out' : List ℕ} {n at q a s : ℕ} {o : code.Option StatementOffset} → Owned w n a o → (q ≤ at + 18) × Wrote out out' at q (gather diag_record (label_by o s))
     → Label w out out' n at q a s
 unfolding check_label
 label_one {s = s} {o} e r =
@@ -65,21 +60,21 @@ label_one {s = s} {o} e r =
           same_told r.1
           (sym (label_is (owner l z.label) z)
           ∙ ap (label_by (owner_answer (owner l z.label))) p
-          ∙ ap (λ (b : Owner). label_by b s) (sym x));
+          ∙ ap (λ (b : code.Option StatementOffset). label_by b s) (sym x));
     }
 
-pub clash_one : {w out out' : List ℕ} {n at q a s i : ℕ} {o : Owner} → Owned w n a o → (q ≤ at + 18) × Wrote out out' at q (gather diag_record (clash_by o s i))
+pub clash_one : {w out out' : List ℕ} {n at q a s i : ℕ} {o : code.Option StatementOffset} → Owned w n a o → (q ≤ at + 18) × Wrote out out' at q (gather diag_record (found_by 5 o s i))
     → Clashes w out out' n at q a s i
 clash_one {s = s} {i} {o} e r =
     record {
       few = r.0;
       sim = λ {t} {l} y h z.
           let x : o ≡ owner_answer (owner l y.bytes) = e.is h z.below ∙ rw z.name in
-          same_told r.1 (sym (ap (λ (b : Owner). clash_by b s i) x ∙ clash_is (owner l y.bytes) s i));
+          same_told r.1 (sym (ap (λ (b : code.Option StatementOffset). found_by 5 b s i) x ∙ clash_is (owner l y.bytes) s i));
     }
 
 -- ---- a token of an outermost `$c` or `$v`
-pub outer_one : {w out out₁ out₂ : List ℕ} {n at p q a o s i : ℕ} {g : Global} → Clashes w out out₁ n at p a s i → DeclaredBy w n a g
+pub outer_one : {w out out₁ out₂ : List ℕ} {n at p q a o s i : ℕ} {g : code.Option Global} → Clashes w out out₁ n at p a s i → DeclaredBy w n a g
     → (q ≤ p + 18) × Wrote out₁ out₂ p q (gather diag_record (redeclared_by g o s i)) → Outer w out out₂ n at q a o s i
 outer_one {o = o} {s} {i} {g} c e r =
     record {
@@ -90,11 +85,11 @@ outer_one {o = o} {s} {i} {g} c e r =
           (same_told r.1
           (sym (redeclared_is (global l y.bytes) y s i)
           ∙ ap (λ (b : ℕ). redeclared_by (global_answer (global l y.bytes)) b s i) m
-          ∙ ap (λ (b : Global). redeclared_by b o s i) (sym x)));
+          ∙ ap (λ (b : code.Option Global). redeclared_by b o s i) (sym x)));
     }
 
 -- ---- a token of a nested `$v`
-pub judged_one : {w : List ℕ} {n a o s : ℕ} {g : Global} {r : Verdict} → DeclaredBy w n a g → r ≡ verdict_by g o (nested_slot w n a s) → Judged w n a o s r
+pub judged_one : {w : List ℕ} {n a o s : ℕ} {g : code.Option Global} {r : code.Option (Breach × TokenOffset)} → DeclaredBy w n a g → r ≡ against_by g o (nested_slot w n a s) → Judged w n a o s r
 unfolding verdict
 judged_one {w} {n} {a} {o} {s} {g} {r} x e =
     record {
@@ -103,9 +98,9 @@ judged_one {w} {n} {a} {o} {s} {g} {r} x e =
           let f = nested_of (keep (active_nested s) st) y.bytes in
           let j : nested_slot w n a s ≡ nested_at f = k.looks a s z.below (le_refl s) ∙ rw z.name in
           let i : g ≡ global_answer d = x.is h z.below ∙ rw z.name in
-          let q : r ≡ verdict_by (global_answer d) o (nested_at f) = e ∙ rw (i, j) in
+          let q : r ≡ against_by (global_answer d) o (nested_at f) = e ∙ rw (i, j) in
           ap verdict_is q
-          ∙ verdict_by_is d o f
+          ∙ against_by_is d o f
           ∙ ap (λ (b : ℕ). by_declared d b (by_known f)) (sym m);
     }
 
@@ -125,25 +120,25 @@ known_none w x y e = by_kind (global w y.bytes) (nested_of x y.bytes) e
         (λ p. split d.constant (λ q. no (rw (p, q) at e)) (λ q. no (rw (p, q) at e))))
 
 -- something stands against it
-pub nested_against : {w out out₁ out₂ : List ℕ} {n at p q a o e s i k : ℕ} {r : TokenOffset} → Clashes w out out₁ n at p a s i → Judged w n a o s (verdict-case.Against k r)
-    → (q ≡ p + 18) × WroteOrKept out₁ out₂ p q (diag_record (diagnostic k s i r.0)) → NestedToken w w out out₂ n at q a o e s i
+pub nested_against : {w out out₁ out₂ : List ℕ} {n at p q a o e s i : ℕ} {k : Breach} {r : TokenOffset} → Clashes w out out₁ n at p a s i → Judged w n a o s (code.Some (k, r))
+    → (q ≤ p + 18) × Wrote out₁ out₂ p q (gather diag_record (diag (number k) s i r.0)) → NestedToken w w out out₂ n at q a o e s i
 unfolding records
 nested_against {w} {n = n} {e = e} {s} {i} {k} {r} c j x =
     record {
       kept = kept_none n 12 12 2 4 w;
       few = omega (arith, x.0, c.few);
       sim = λ {t} {l} {st} y h u z m f.
-          let d : against k r.0 ≡ verdict l (keep (active_nested s) st) y = j.is y h z m f in
+          let d : against (number k) r.0 ≡ verdict l (keep (active_nested s) st) y = j.is y h z m f in
           record {
             nests = rw (← d) (rw (append-nil st) f);
             wrote =
                 told_then (clash (owner l y.bytes) s i) (verdict_diags (verdict l (keep (active_nested s) st) y) s i) (c.sim y h z)
-                (same_told (wrote_diag k s i r.0 x.1.wrote) (ap (λ (b : paper.Verdict). verdict_diags b s i) (sym d)));
+                (same_told x.1 (ap (λ (b : paper.Verdict). verdict_diags b s i) (sym d)));
           };
     }
 
 -- nothing does
-pub nested_recorded : {w v out out' : List ℕ} {n at q a o e s i : ℕ} → Room w n → a < n → Clashes w out out' n at q a s i → Judged w n a o s verdict-case.Record
+pub nested_recorded : {w v out out' : List ℕ} {n at q a o e s i : ℕ} → Room w n → a < n → Clashes w out out' n at q a s i → Judged w n a o s code.None
     → v ≡ with_nested w n a o e → NestedToken w v out out' n at q a o e s i
 unfolding records
 nested_recorded {w} {v} {n = n} {a = a} {o} {e} {s} {i} r h₁ c j x =
@@ -172,7 +167,7 @@ pub seen_float : {w : List ℕ} {n : ℕ} {l : List Statement} {k a s : ℕ} {b 
     → float_at l (float_slot w n a s) ≡ float_of (view x s).hyps b
 seen_float {s = s} {b} x y f = f.looks _ s y.below (le_refl s) ∙ rw y.name (floats_view x s b)
 
-pub eap_one : {w out out' : List ℕ} {n at q a s i : ℕ} {c : CheckedToken} {f : FloatSlot} → Sensed w n a s c → f ≡ float_slot w n a s
+pub eap_one : {w out out' : List ℕ} {n at q a s i : ℕ} {c : CheckedToken} {f : code.Option StatementRow} → Sensed w n a s c → f ≡ float_slot w n a s
     → (q ≤ at + 18) × Wrote out out' at q (gather diag_record (symbol_by (sense_of c) f s i)) → EapToken w out out' n at q a s i
 eap_one {s = s} {i} {c} {f} e g r =
     record {
@@ -184,7 +179,7 @@ eap_one {s = s} {i} {c} {f} e g r =
     }
 
 -- ---- a token of a `$d`
-pub dv_one : {w v out out' : List ℕ} {n at q a s i : ℕ} {c : CheckedToken} {k : MarkSlot} → Room w n → a < n → Sensed w n a s c
+pub dv_one : {w v out out' : List ℕ} {n at q a s i : ℕ} {c : CheckedToken} {k : code.Option TokenIndex} → Room w n → a < n → Sensed w n a s c
     → (k ≡ mark_slot w n a) × (v ≡ marked_by (mark_slot w n a) w n a i)
     → (q ≤ at + 18) × Wrote out out' at q (gather diag_record (disjoint_by (sense_of c) k s i)) → DvToken w v out out' n at q a s i
 dv_one {w} {v} {n = n} {a = a} {s} {i} {c} {k} ro lt e g r =
@@ -201,32 +196,32 @@ dv_one {w} {v} {n = n} {a = a} {s} {i} {c} {k} ro lt e g r =
     }
 
 -- ---- a `$f`
-pub float_row : (w : List ℕ) (n a p : ℕ) (r : StatementRow) → float_slot w n a p ≡ floating.At r → word w (symbol_cell n a 4) ≡ r.0 + 1
+pub float_row : (w : List ℕ) (n a p : ℕ) (r : StatementRow) → float_slot w n a p ≡ code.Some r → word w (symbol_cell n a 4) ≡ r.0 + 1
 unfolding float_slot
 float_row w n a p r e =
     split (eqb (word w (symbol_cell n a 4)) 0)
-    (λ q. let z : floating.Nothing ≡ floating.At r = rw q at e in absurd (no_at z))
+    (λ q. let z : code.None ≡ code.Some r = rw q at e in absurd (no_at z))
     (λ q. let m : word w (symbol_cell n a 4) ≢ 0 = eqb_ne q in
     split (ltb p (word w (statement_cell (word w (symbol_cell n a 4) - 1) 7)))
-    (λ i. let z : floating.At (record { 0 = word w (symbol_cell n a 4) - 1 }) ≡ floating.At r = rw (q, i) at e in let y : ◌≡◌ {A = StatementRow} (record { 0 = word w (symbol_cell n a 4) - 1 }) r = cc in omega (arith, m, ap (λ (b : StatementRow). b.0) y))
-    (λ i. let z : floating.Nothing ≡ floating.At r = rw (q, i) at e in absurd (no_at z)))
+    (λ i. let z : code.Some (record { 0 = word w (symbol_cell n a 4) - 1 }) ≡ code.Some r = rw (q, i) at e in let y : ◌≡◌ {A = StatementRow} (record { 0 = word w (symbol_cell n a 4) - 1 }) r = cc in omega (arith, m, ap (λ (b : StatementRow). b.0) y))
+    (λ i. let z : code.None ≡ code.Some r = rw (q, i) at e in absurd (no_at z)))
   where
-    no_at : floating.Nothing ≡ floating.At r → ⊥
+    no_at : ◌≡◌ {A = code.Option StatementRow} code.None (code.Some r) → ⊥
     no_at z = let y : ◌≡◌ {A = ℕ} 0 1 = cc in omega arith
 
 -- the earlier `$f`
-float_told : {t w : List ℕ} {n : ℕ} {l : List Statement} {k a s : ℕ} {b : List ℕ} {e : Earlier} (x : State) → Named t w n l → Atomic l a b → k ≤ length l → Floats w n l x.hyps k s
-    → e ≡ earlier_slot w n a s → float_by e s ≡ float_diags (float_of (view x s).hyps b) s
+float_told : {t w : List ℕ} {n : ℕ} {l : List Statement} {k a s : ℕ} {b : List ℕ} {e : code.Option StatementOffset} (x : State) → Named t w n l → Atomic l a b → k ≤ length l → Floats w n l x.hyps k s
+    → e ≡ earlier_slot w n a s → found_by 11 e s 0 ≡ float_diags (float_of (view x s).hyps b) s
 unfolding earlier_slot
 float_told {w = w} {n} {l} {k} {a} {s} {b} {e} x h y g f p =
     by_float (float_slot w n a s)
     (λ r q.
     let i : word w (symbol_cell n a 4) ≡ r.0 + 1 = float_row w n a s r q in
     let j : word w (statement_cell r.0 1) ≡ (stmt l r.0).at = h.shape.at r.0 (omega (arith, f.rows a y.below)) in
-    let o : e ≡ earlier.At (record { 0 = (stmt l r.0).at }) = p ∙ rw (q, j) in
+    let o : e ≡ code.Some (record { 0 = (stmt l r.0).at }) = p ∙ rw (q, j) in
     rw o (sym (ap (λ (z : Option Hyp). float_diags z s) (sym (seen_float x y f) ∙ ap (float_at l) q) ∙ float_at_is l r s)))
     (λ q.
-    let o : e ≡ earlier.Nothing = p ∙ rw q in
+    let o : e ≡ code.None = p ∙ rw q in
     rw o (sym (ap (λ (z : Option Hyp). float_diags z s) (sym (seen_float x y f) ∙ ap (float_at l) q))))
 
 if_none_some : (d e : List Diag) → length d ≢ 0 → if_none d e ≡ d
@@ -255,7 +250,7 @@ module _ {w out out₁ out₂ : List ℕ} {n at p q b a s : ℕ} {c d : CheckedT
             same_told r (if_none_some ds _ (λ o. ne (omega (arith, r.place, told_length ds, o))));
       }
 
-  pub float_passed : {out₃ : List ℕ} {r : ℕ} {o : Earlier} → q ≡ at → o ≡ earlier_slot w n a s → (r ≤ q + 18) × Wrote out₂ out₃ q r (gather diag_record (float_by o s)) → Float w out out₃ n at r b a s
+  pub float_passed : {out₃ : List ℕ} {r : ℕ} {o : code.Option StatementOffset} → q ≡ at → o ≡ earlier_slot w n a s → (r ≤ q + 18) × Wrote out₂ out₃ q r (gather diag_record (found_by 11 o s 0)) → Float w out out₃ n at r b a s
   unfolding check_float
   float_passed {o = o} eq eo v =
       record {
@@ -265,7 +260,7 @@ module _ {w out out₁ out₂ : List ℕ} {n at p q b a s : ℕ} {c d : CheckedT
             let ds = typecode_diags (sense l (view st s) (token z 0)) z.at ++ variable_diags (sense l (view st s) (token z 1)) z.at in
             let n₀ : ds ≡ [] = none_told ds (omega (arith, u.place, told_length ds)) in
             let fd = float_diags (float_of (view st s).hyps (token z 1).bytes) in
-            let i : float_by o s ≡ fd s = float_told st g.named g.atomic m h eo in
+            let i : found_by 11 o s 0 ≡ fd s = float_told st g.named g.atomic m h eo in
             same_told (told_then ds (fd z.at) u (same_told v.1 (ap fd e ∙ sym i)))
             (ap (λ (b : List Diag). if_none b (fd z.at)) n₀ ∙ ap (λ (b : List Diag). b ++ fd z.at) (sym n₀));
       }

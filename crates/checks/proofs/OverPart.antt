@@ -16,16 +16,17 @@ use Rattle.paper.proofs.Lists.{keep_append}
 use Rattle.area.specs.Cells.{math_cell, word}
 use Rattle.reader.specs.Rows.{stmt}
 use Rattle.stream.specs.Wrote.{Wrote}
-use Rattle.token.specs.Words.{token_at, move}
+use Rattle.token.specs.Words.{move}
 use Rattle.slots.specs.Kept.{Kept}
 use Rattle.slots.specs.Slots.{Nests, Apart}
 use Rattle.slots.proofs.Kept.{kept_none, kept_then}
 use Rattle.checks.specs.Tokens.{Outer, NestedToken}
-use Rattle.checks.specs.Visible.{visible_from, First}
+use Rattle.checks.specs.Visible.{visible_from, Comes}
+use Rattle.checks.specs.declared.part.MathToken.{MathToken}
 use Rattle.checks.specs.Walks.{LastTwo, HerePart, WalkOuter, WalkNested}
 use Rattle.checks.proofs.Told.{told_then, told_none}
 use Rattle.checks.proofs.Ones.{same_told}
-use Rattle.checks.proofs.Each.{Left, left_start, Taken, take_one, left_none, each_snoc, firsts_more, firsts_length, nested_token, records_snoc, nested_snoc, records_live}
+use Rattle.checks.proofs.Each.{each_snoc, firsts_more, firsts_length, nested_token, records_snoc, nested_snoc, records_live}
 use Rattle.checks.proofs.OverRows.{here_kept, all_done}
 
 -- ---- the math tokens are those of the part, as far on as it starts
@@ -34,11 +35,11 @@ map_at b [] i h = absurd (not-suc-le-zero h)
 map_at b (x ∷ m) zero h = refl
 map_at b (x ∷ m) (suc i) h = map_at b m i (omega (arith, h))
 
-pub math_at : {t w q : List ℕ} {n : ℕ} {l : List Statement} {k f b o s e i : ℕ} → HerePart t w q n l k f b o → Taken q s e i → token (stmt l k) i ≡ move b (token_at q s e)
+pub math_at : {t w q q' : List ℕ} {n : ℕ} {l : List Statement} {k f b o i i' : ℕ} {x : MathToken} → HerePart t w q n l k f b o → Comes q i x q' i' → (token (stmt l k) i).at ≡ b + x.start
 math_at {q = q} {b = b} {i = i} h x =
-    ap (λ (m : List Token). get_or m i no_token) h.math
-    ∙ map_at b (visible_from q 0) i x.inside
-    ∙ ap (move b) x.is
+    ap (λ (m : List Token). (get_or m i no_token).at) h.math
+    ∙ ap (λ (y : Token). y.at) (map_at b (visible_from q 0) i x.inside)
+    ∙ omega (arith, x.start)
 
 -- ---- `$f`
 pub two_start : {w : List ℕ} {n f a b : ℕ} → LastTwo w n f 0 a b
@@ -54,8 +55,7 @@ pub two_end : {w : List ℕ} {n f i c a b : ℕ} → c ≤ i → i ≤ c → Las
 two_end {i = i} {c} g k h = let e : c ≡ i = omega arith in rw e h
 
 -- ---- outermost `$c`, `$v`
-pub record InvOuter (w q out₀ out : List ℕ) (n at p f b s c i : ℕ) : Type 0 where
-  pub left : Left q c i
+pub record InvOuter (w q out₀ out : List ℕ) (n at p f b s i : ℕ) : Type 0 where
   pub few : p ≤ at + 36 * i
   pub upto : i ≤ length (visible_from q 0)
   pub len : length out ≡ length out₀
@@ -63,23 +63,20 @@ pub record InvOuter (w q out₀ out : List ℕ) (n at p f b s c i : ℕ) : Type 
       {t : List ℕ} {l : List Statement} (k : ℕ) → HerePart t w q n l k f b s
       → Wrote out₀ out at p (gather diag_record (each (outer_token l s) (take i (stmt l k).math) 0))
 
-pub outer_start : {w q out : List ℕ} {n at f b s : ℕ} → InvOuter w q out out n at at f b s 0 0
+pub outer_start : {w q out : List ℕ} {n at f b s : ℕ} → InvOuter w q out out n at at f b s 0
 unfolding each
-outer_start {q = q} {out} {at = at} =
+outer_start {out = out} {at = at} =
     record {
-      left = left_start q;
       few = omega arith;
       upto = omega arith;
       len = refl;
       sim = λ k h. told_none out at;
     }
 
-pub outer_step : {w q out₀ out out' : List ℕ} {n at p r f b s c i a y e : ℕ} → First q c y e → a ≡ word w (math_cell n (f + i)) → Outer w out out' n p r a (b + y) s i → length out' ≡ length out
-    → InvOuter w q out₀ out n at p f b s c i → InvOuter w q out₀ out' n at r f b s e (i + 1)
-outer_step {q = q} {b = b} {s} {i = i} {y = y} {e} fi ea o len h =
-    let x = take_one h.left fi in
+pub outer_step : {w q q' out₀ out out' : List ℕ} {n at p r f b s i i' a : ℕ} {x : MathToken} → Comes q i x q' i' → a ≡ word w (math_cell n (f + i)) → Outer w out out' n p r a (b + x.start) s i → length out' ≡ length out
+    → InvOuter w q out₀ out n at p f b s i → InvOuter w q out₀ out' n at r f b s (i + 1)
+outer_step {b = b} {s} {i} {x = x₀} x ea o len h =
     record {
-      left = x.left;
       few = omega (arith, h.few, o.few);
       upto = omega (arith, x.inside);
       len = len ∙ h.len;
@@ -89,7 +86,7 @@ outer_step {q = q} {b = b} {s} {i = i} {y = y} {e} fi ea o len h =
           let fn = outer_token l s in
           let lt : i < length ms = omega (arith, g.here.count, x.inside) in
           let z : 0 + length (take i ms) ≡ i = omega (arith, firsts_length ms i (omega arith)) in
-          let at : yt.at ≡ b + y = ap (λ (m : Token). m.at) (math_at g x) ∙ omega arith in
+          let at : yt.at ≡ b + x₀.start = math_at g x in
           let r : each fn (take (i + 1) ms) 0 ≡ each fn (take i ms) 0 ++ fn i yt =
           ap (λ (m : List Token). each fn m 0) (firsts_more ms i lt)
           ∙ each_snoc fn (take i ms) yt 0
@@ -100,10 +97,9 @@ outer_step {q = q} {b = b} {s} {i = i} {y = y} {e} fi ea o len h =
           r;
     }
 
-pub outer_end : {w q out₀ out : List ℕ} {n at p f b s c i : ℕ} → visible_from q c ≡ [] → InvOuter w q out₀ out n at p f b s c i → WalkOuter w q out₀ out n at p f b s
+pub outer_end : {w q out₀ out : List ℕ} {n at p f b s i : ℕ} → length (visible_from q 0) ≤ i → InvOuter w q out₀ out n at p f b s i → WalkOuter w q out₀ out n at p f b s
 unfolding check_outer
-outer_end {q = q} {s = s} {i = i} e h =
-    let g : length (visible_from q 0) ≤ i = left_none h.left e in
+outer_end {s = s} g h =
     record {
       few = omega (arith, h.few, h.upto);
       sim = λ {t} {l} k y.
@@ -113,9 +109,8 @@ outer_end {q = q} {s = s} {i = i} e h =
     }
 
 -- ---- nested `$v`
-pub record InvNested (w v q out₀ out : List ℕ) (n at p f b e s c i : ℕ) : Type 0 where
+pub record InvNested (w v q out₀ out : List ℕ) (n at p f b e s i : ℕ) : Type 0 where
   pub kept : Kept n 12 12 2 4 w v
-  pub left : Left q c i
   pub few : p ≤ at + 36 * i
   pub upto : i ≤ length (visible_from q 0)
   pub len : length out ≡ length out₀
@@ -125,12 +120,11 @@ pub record InvNested (w v q out₀ out : List ℕ) (n at p f b e s c i : ℕ) : 
       → Nests v n l (st ++ nested_records l e (take i (stmt l k).math) (keep (active_nested s) st)) s
       × Wrote out₀ out at p (gather diag_record (nested_diags l s e (take i (stmt l k).math) 0 (keep (active_nested s) st)))
 
-pub nested_start : {w q out : List ℕ} {n at f b e s : ℕ} → InvNested w w q out out n at at f b e s 0 0
+pub nested_start : {w q out : List ℕ} {n at f b e s : ℕ} → InvNested w w q out out n at at f b e s 0
 unfolding nested_records nested_diags
-nested_start {w} {q} {out} {n} {at} =
+nested_start {w} {out = out} {n} {at} =
     record {
       kept = kept_none n 12 12 2 4 w;
-      left = left_start q;
       few = omega arith;
       upto = omega arith;
       len = refl;
@@ -144,13 +138,11 @@ known_so_far l st m e s h =
     keep_append (active_nested s) st (nested_records l e m (keep (active_nested s) st))
     ∙ ap (λ (r : List Nested). keep (active_nested s) st ++ r) (records_live l s e m (keep (active_nested s) st) h)
 
-pub nested_step : {w v u q out₀ out out' : List ℕ} {n at p r f b e s c i a y z : ℕ} → First q c y z → a ≡ word v (math_cell n (f + i)) → NestedToken v u out out' n p r a (b + y) e s i
-    → length out' ≡ length out → InvNested w v q out₀ out n at p f b e s c i → InvNested w u q out₀ out' n at r f b e s z (i + 1)
-nested_step {q = q} {n = n} {f = f} {b} {e} {s} {i = i} {y = y} fi ea o len h =
-    let x = take_one h.left fi in
+pub nested_step : {w v u q q' out₀ out out' : List ℕ} {n at p r f b e s i i' a : ℕ} {x : MathToken} → Comes q i x q' i' → a ≡ word v (math_cell n (f + i))
+    → NestedToken v u out out' n p r a (b + x.start) e s i → length out' ≡ length out → InvNested w v q out₀ out n at p f b e s i → InvNested w u q out₀ out' n at r f b e s (i + 1)
+nested_step {n = n} {f = f} {b} {e} {s} {i} {x = x₀} x ea o len h =
     record {
       kept = kept_then h.kept o.kept;
-      left = x.left;
       few = omega (arith, h.few, o.few);
       upto = omega (arith, x.inside);
       len = len ∙ h.len;
@@ -161,7 +153,7 @@ nested_step {q = q} {n = n} {f = f} {b} {e} {s} {i = i} {y = y} fi ea o len h =
           let rs = nested_records l e (take i ms) kn in
           let lm : i < length ms = omega (arith, g.here.count, x.inside) in
           let zz : 0 + length (take i ms) ≡ i = omega (arith, firsts_length ms i (omega arith)) in
-          let at : yt.at ≡ b + y = ap (λ (m : Token). m.at) (math_at g x) ∙ omega arith in
+          let at : yt.at ≡ b + x₀.start = math_at g x in
           let so = h.sim st k g lt u d in
           let g' = here_kept (omega arith) h.kept g.here in
           let on = o.sim yt g'.named u (rw ea (g'.atomic i x.inside)) at so.0 in
@@ -184,9 +176,8 @@ nested_step {q = q} {n = n} {f = f} {b} {e} {s} {i = i} {y = y} fi ea o len h =
           );
     }
 
-pub nested_end : {w v q out₀ out : List ℕ} {n at p f b e s c i : ℕ} → visible_from q c ≡ [] → InvNested w v q out₀ out n at p f b e s c i → WalkNested w v q out₀ out n at p f b e s
-nested_end {q = q} {e = e} {s} {i = i} z h =
-    let g : length (visible_from q 0) ≤ i = left_none h.left z in
+pub nested_end : {w v q out₀ out : List ℕ} {n at p f b e s i : ℕ} → length (visible_from q 0) ≤ i → InvNested w v q out₀ out n at p f b e s i → WalkNested w v q out₀ out n at p f b e s
+nested_end {e = e} {s} g h =
     record {
       kept = h.kept;
       few = omega (arith, h.few, h.upto);

@@ -1,3 +1,4 @@
+pub mod Breach
 pub mod Found
 pub mod Tokens
 pub mod Visible

@@ -1,6 +1,6 @@
 -- What the check of one token asks of the words, and what it promises for every text and state that they stand for.
 -- `a` is the token's atom, `s` the statement's offset, `i` the token's index, `y` the token.
-use Rattle.std.specs.Prelude.{◌≡◌, List, [], ◌∷◌, ◌++◌, ℕ, ◌+◌, ◌*◌, ◌<◌, ◌≤◌, ◌^◌, ltb, length}
+use Rattle.std.specs.Prelude.{◌≡◌, List, [], ◌∷◌, ◌++◌, ℕ, ◌+◌, ◌*◌, ◌<◌, ◌≤◌, ◌^◌, ltb, length, Option, Some, None}
 use Rattle.std.proofs.Math.Option.{some}
 use Rattle.paper.specs.Base.{gather, keep}
 use Rattle.paper.specs.Tokens.{Token}
@@ -15,12 +15,11 @@ use Rattle.stream.specs.Wrote.{Wrote}
 use Rattle.slots.specs.Kept.{Room, Kept}
 use Rattle.slots.specs.Slots.{float_slot, Nests, Floats, Atomic, Apart}
 use Rattle.slots.specs.Marks.{Marks}
-use Rattle.slots.specs.declared.FloatSlot.{FloatSlot}
-use Rattle.slots.specs.declared.FloatSlot.TheVariants as floating
+use Rattle.paper.specs.declared.StatementOffset.{StatementOffset}
+use Rattle.paper.specs.declared.StatementRow.{StatementRow}
+use Rattle.paper.specs.declared.TokenOffset.{TokenOffset}
 use Rattle.checks.specs.Found.{verdict_is}
-use Rattle.checks.specs.declared.Verdict.{Verdict}
-use Rattle.checks.specs.declared.Earlier.{Earlier}
-use Rattle.checks.specs.declared.Earlier.TheVariants as earlier
+use Rattle.checks.specs.declared.Breach.{Breach}
 
 pub record Can (w : List ℕ) (n at a : ℕ) : Type 0 where
   pub room : Room w n
@@ -45,7 +44,7 @@ pub record Outer (w out out' : List ℕ) (n at q a offset s i : ℕ) : Type 0 wh
       → Wrote out out' at q (gather diag_record (outer_token l s i y))
 
 -- ---- a token of a nested `$v`
-pub record Judged (w : List ℕ) (n a offset s : ℕ) (r : Verdict) : Type 0 where
+pub record Judged (w : List ℕ) (n a offset s : ℕ) (r : Option (Breach × TokenOffset)) : Type 0 where
   pub is :
       {t : List ℕ} {l : List Statement} {st : List Nested} (y : Token) → Named t w n l → Atomic l a y.bytes
       → y.at ≡ offset → Nests w n l st s → verdict_is r ≡ verdict l (keep (active_nested s) st) y
@@ -97,11 +96,11 @@ pub record DvToken (w v out out' : List ℕ) (n at q a s i : ℕ) : Type 0 where
       → Apart l → Marks w n l d → length d ≡ i → DvOne t w v out out' n at q l x d y m s i
 
 -- ---- the offset of a variable's active `$f`
-abbrev pub offset_of : List ℕ → FloatSlot → Earlier
-offset_of w (floating.At r) = earlier.At (record { 0 = word w (statement_cell r.0 1) })
-offset_of w floating.Nothing = earlier.Nothing
+abbrev pub offset_of : List ℕ → Option StatementRow → Option StatementOffset
+offset_of w (Some r) = Some (record { 0 = word w (statement_cell r.0 1) })
+offset_of w None = None
 
-unfoldable pub earlier_slot : List ℕ → ℕ → ℕ → ℕ → Earlier
+unfoldable pub earlier_slot : List ℕ → ℕ → ℕ → ℕ → Option StatementOffset
 earlier_slot w n a s = offset_of w (float_slot w n a s)
 
 -- the two tokens of a `$f`: typecode b, variable a

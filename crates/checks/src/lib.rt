@@ -2,24 +2,59 @@
 // Every diagnostic goes through `stream::record::put_diag`; what was found decides which.
 #![tactic(auto)]
 
-use paper::{Atom, StatementOffset, TokenOffset};
+ghost use Rattle.std.specs.Prelude.{◌≡◌};
+ghost use Rattle.checks.specs.Breach.{number};
 
+use paper::{Atom, StatementOffset, TokenIndex};
+
+pub mod part;
 pub mod put;
 pub mod tokens;
 pub mod walks;
 
-/// What stands against recording a nested `$v` token: a kind and the declaring token, or nothing.
+/// What a diagnostic tells, by document 01's names; its number is the kind in the diagnostics stream.
 #[derive(Clone, Copy)]
-pub enum Verdict {
-    Against(u32, TokenOffset),
-    Record,
+pub enum Breach {
+    DuplicateLabel = 1,
+    NotActiveSymbol = 2,
+    ExprNotConstantPrefix = 3,
+    VariableMissingFloat = 4,
+    SymbolDuplicatesLabel = 5,
+    SymbolRedeclared = 6,
+    DjNotVariable = 7,
+    DjRepeatedVariable = 8,
+    FloatNotConstant = 9,
+    FloatNotVariable = 10,
+    FloatRedeclared = 11,
+    VariableRedeclaredAsConstant = 12,
+    NestedConstant = 13,
 }
 
-/// The `$f` that a variable has already, or nothing.
+impl From<Breach> for u32 {
+    ghost from_gives = { λ b k. k ≡ number b };
+
+    fn from(b: Breach) -> u32 {
+        b as u32
+    }
+}
+
+/// Where a diagnostic stands: the offset of a statement, and the index of one of its tokens.
 #[derive(Clone, Copy)]
-pub enum Earlier {
-    At(StatementOffset),
-    Nothing,
+pub struct Spot {
+    pub statement: StatementOffset,
+    pub index: TokenIndex,
+}
+
+impl Spot {
+    /// Token `index` of the statement at `statement`; 0 where a kind has no index.
+    pub fn new(statement: StatementOffset, index: u32) -> Self
+        ensures { result ≡ record { statement = statement; index = record { 0 = index } } }
+    {
+        Spot {
+            statement,
+            index: TokenIndex(index),
+        }
+    }
 }
 
 /// The two tokens of a `$f`.

@@ -1,47 +1,59 @@
 // Diagnostics written by what the look-ups found. Each function answers the place after what it wrote.
-// `s` is the statement's offset, `i` the token's index.
+// A look-up's answer is a value or nothing; `spot` is the statement and the token.
 ghost use Rattle.std.specs.Prelude.{◌+◌, ◌<◌, ◌≤◌, ◌^◌};
 ghost use Rattle.paper.specs.Base.{gather};
-ghost use Rattle.paper.specs.Checks.{typecode_diags, variable_diags};
+ghost use Rattle.paper.specs.Checks.{diag, typecode_diags, variable_diags};
 ghost use Rattle.paper.specs.Records.{diag_record};
 ghost use Rattle.stream.specs.Wrote.{Wrote};
-ghost use Rattle.checks.specs.Found.{sense_of, label_by, clash_by, again, redeclared_by, float_by, missing_by, symbol_by, disjoint_by};
+ghost use Rattle.checks.specs.Breach.{number};
+ghost use Rattle.checks.specs.Found.{sense_of, found_by, label_by, again, redeclared_by, missing_by, symbol_by, disjoint_by};
 
-use crate::Earlier;
-use nameck::lookup::{Global, Owner};
-use paper::{StatementOffset, TokenIndex, TokenOffset};
-use slots::{CheckedToken, FloatSlot, MarkSlot};
+use crate::{Breach, Spot};
+use nameck::lookup::Global;
+use paper::{StatementOffset, StatementRow, TokenIndex, TokenOffset};
+use slots::CheckedToken;
 use stream::record::put_diag;
 
+/// One diagnostic.
+pub fn put_breach(out: &mut [u8], at: usize, breach: Breach, spot: Spot, other: u32) -> usize
+    requires { at < 2 ^ 60 }
+    ensures { (result ≤ at + 18) × Wrote out.old out.new at result (gather diag_record (diag (number breach) spot.statement.0 spot.index.0 other)) }
+{
+    put_diag(out, at, breach.into(), spot.statement, spot.index, other)
+}
+
+/// A diagnostic that tells the offset of another statement, if there is one.
+pub fn put_found(
+    out: &mut [u8],
+    at: usize,
+    breach: Breach,
+    other: Option<StatementOffset>,
+    spot: Spot,
+) -> usize
+    requires { at < 2 ^ 60 }
+    ensures { (result ≤ at + 18) × Wrote out.old out.new at result (gather diag_record (found_by (number breach) other spot.statement.0 spot.index.0)) }
+{
+    match other {
+        Some(o) => put_breach(out, at, breach, spot, o.0),
+        None => at,
+    }
+}
+
 /// Kind 1: another statement owns the label.
-pub fn put_label(out: &mut [u8], at: usize, owner: Owner, s: StatementOffset) -> usize
+pub fn put_label(
+    out: &mut [u8],
+    at: usize,
+    owner: Option<StatementOffset>,
+    s: StatementOffset,
+) -> usize
     requires { at < 2 ^ 60 }
     ensures { (result ≤ at + 18) × Wrote out.old out.new at result (gather diag_record (label_by owner s.0)) }
 {
-    let Owner::At(o) = owner else {
-        return at;
-    };
-    if o.0 == s.0 {
-        return at;
+    match owner {
+        Some(o) if o.0 == s.0 => at,
+        Some(o) => put_breach(out, at, Breach::DuplicateLabel, Spot::new(s, 0), o.0),
+        None => at,
     }
-    put_diag(out, at, 1, s, TokenIndex(0), o.0)
-}
-
-/// Kind 5: a label of the same name.
-pub fn put_clash(
-    out: &mut [u8],
-    at: usize,
-    owner: Owner,
-    s: StatementOffset,
-    i: TokenIndex,
-) -> usize
-    requires { at < 2 ^ 60 }
-    ensures { (result ≤ at + 18) × Wrote out.old out.new at result (gather diag_record (clash_by owner s.0 i.0)) }
-{
-    let Owner::At(o) = owner else {
-        return at;
-    };
-    put_diag(out, at, 5, s, i, o.0)
 }
 
 /// Kind 6: the declaration at `p` is not that of the token at `offset`.
@@ -50,34 +62,31 @@ pub fn put_again(
     at: usize,
     p: TokenOffset,
     offset: TokenOffset,
-    s: StatementOffset,
-    i: TokenIndex,
+    spot: Spot,
 ) -> usize
     requires { at < 2 ^ 60 }
-    ensures { (result ≤ at + 18) × Wrote out.old out.new at result (gather diag_record (again p.0 offset.0 s.0 i.0)) }
+    ensures { (result ≤ at + 18) × Wrote out.old out.new at result (gather diag_record (again p.0 offset.0 spot.statement.0 spot.index.0)) }
 {
     if p.0 == offset.0 {
         return at;
     }
-    put_diag(out, at, 6, s, i, p.0)
+    put_breach(out, at, Breach::SymbolRedeclared, spot, p.0)
 }
 
 /// Kind 6 by the global declaration.
 pub fn put_redeclared(
     out: &mut [u8],
     at: usize,
-    g: Global,
+    g: Option<Global>,
     offset: TokenOffset,
-    s: StatementOffset,
-    i: TokenIndex,
+    spot: Spot,
 ) -> usize
     requires { at < 2 ^ 60 }
-    ensures { (result ≤ at + 18) × Wrote out.old out.new at result (gather diag_record (redeclared_by g offset.0 s.0 i.0)) }
+    ensures { (result ≤ at + 18) × Wrote out.old out.new at result (gather diag_record (redeclared_by g offset.0 spot.statement.0 spot.index.0)) }
 {
     match g {
-        Global::Constant(p) => put_again(out, at, p, offset, s, i),
-        Global::Variable(p) => put_again(out, at, p, offset, s, i),
-        Global::Nothing => at,
+        Some(Global::Constant(p) | Global::Variable(p)) => put_again(out, at, p, offset, spot),
+        None => at,
     }
 }
 
@@ -86,10 +95,11 @@ pub fn put_typecode(out: &mut [u8], at: usize, c: CheckedToken, s: StatementOffs
     requires { at < 2 ^ 60 }
     ensures { (result ≤ at + 18) × Wrote out.old out.new at result (gather diag_record (typecode_diags (sense_of c) s.0)) }
 {
+    let spot = Spot::new(s, 0);
     match c {
-        CheckedToken::Inactive => put_diag(out, at, 2, s, TokenIndex(0), 0),
+        CheckedToken::Inactive => put_breach(out, at, Breach::NotActiveSymbol, spot, 0),
         CheckedToken::Constant(_) => at,
-        CheckedToken::Variable(_) => put_diag(out, at, 9, s, TokenIndex(0), 0),
+        CheckedToken::Variable(_) => put_breach(out, at, Breach::FloatNotConstant, spot, 0),
     }
 }
 
@@ -98,62 +108,35 @@ pub fn put_variable(out: &mut [u8], at: usize, c: CheckedToken, s: StatementOffs
     requires { at < 2 ^ 60 }
     ensures { (result ≤ at + 18) × Wrote out.old out.new at result (gather diag_record (variable_diags (sense_of c) s.0)) }
 {
+    let spot = Spot::new(s, 1);
     match c {
-        CheckedToken::Inactive => put_diag(out, at, 2, s, TokenIndex(1), 0),
-        CheckedToken::Constant(_) => put_diag(out, at, 10, s, TokenIndex(1), 0),
+        CheckedToken::Inactive => put_breach(out, at, Breach::NotActiveSymbol, spot, 0),
+        CheckedToken::Constant(_) => put_breach(out, at, Breach::FloatNotVariable, spot, 0),
         CheckedToken::Variable(_) => at,
     }
 }
 
-/// Kind 11: the offset of an earlier `$f`.
-pub fn put_float(out: &mut [u8], at: usize, earlier: Earlier, s: StatementOffset) -> usize
-    requires { at < 2 ^ 60 }
-    ensures { (result ≤ at + 18) × Wrote out.old out.new at result (gather diag_record (float_by earlier s.0)) }
-{
-    let Earlier::At(o) = earlier else {
-        return at;
-    };
-    put_diag(out, at, 11, s, TokenIndex(0), o.0)
-}
-
-/// Kind 4: a variable without a `$f`.
-pub fn put_missing(
-    out: &mut [u8],
-    at: usize,
-    f: FloatSlot,
-    s: StatementOffset,
-    i: TokenIndex,
-) -> usize
-    requires { at < 2 ^ 60 }
-    ensures { (result ≤ at + 18) × Wrote out.old out.new at result (gather diag_record (missing_by f s.0 i.0)) }
-{
-    let FloatSlot::At(_) = f else {
-        return put_diag(out, at, 4, s, i, 0);
-    };
-    at
-}
-
-/// Kinds 2, 3 and 4: a token of a `$e`, `$a` or `$p`.
+/// Kinds 2, 3 and 4: a token of a `$e`, `$a` or `$p`; `f` is the `$f` of a variable.
 pub fn put_symbol(
     out: &mut [u8],
     at: usize,
     c: CheckedToken,
-    f: FloatSlot,
-    s: StatementOffset,
-    i: TokenIndex,
+    f: Option<StatementRow>,
+    spot: Spot,
 ) -> usize
     requires { at < 2 ^ 60 }
-    ensures { (result ≤ at + 18) × Wrote out.old out.new at result (gather diag_record (symbol_by (sense_of c) f s.0 i.0)) }
+    ensures { (result ≤ at + 18) × Wrote out.old out.new at result (gather diag_record (symbol_by (sense_of c) f spot.statement.0 spot.index.0)) }
 {
-    match c {
-        CheckedToken::Inactive => put_diag(out, at, 2, s, i, 0),
-        CheckedToken::Constant(_) => at,
-        CheckedToken::Variable(_) => {
-            if i.0 == 0 {
-                return put_diag(out, at, 3, s, TokenIndex(0), 0);
-            }
-            put_missing(out, at, f, s, i)
+    match (c, f) {
+        (CheckedToken::Inactive, _) => put_breach(out, at, Breach::NotActiveSymbol, spot, 0),
+        (CheckedToken::Constant(_), _) => at,
+        (CheckedToken::Variable(_), _) if spot.index.0 == 0 => {
+            put_breach(out, at, Breach::ExprNotConstantPrefix, spot, 0)
         }
+        (CheckedToken::Variable(_), None) => {
+            put_breach(out, at, Breach::VariableMissingFloat, spot, 0)
+        }
+        (CheckedToken::Variable(_), Some(_)) => at,
     }
 }
 
@@ -162,21 +145,18 @@ pub fn put_dv(
     out: &mut [u8],
     at: usize,
     c: CheckedToken,
-    k: MarkSlot,
-    s: StatementOffset,
-    i: TokenIndex,
+    k: Option<TokenIndex>,
+    spot: Spot,
 ) -> usize
     requires { at < 2 ^ 60 }
-    ensures { (result ≤ at + 18) × Wrote out.old out.new at result (gather diag_record (disjoint_by (sense_of c) k s.0 i.0)) }
+    ensures { (result ≤ at + 18) × Wrote out.old out.new at result (gather diag_record (disjoint_by (sense_of c) k spot.statement.0 spot.index.0)) }
 {
-    match c {
-        CheckedToken::Inactive => put_diag(out, at, 2, s, i, 0),
-        CheckedToken::Constant(_) => put_diag(out, at, 7, s, i, 0),
-        CheckedToken::Variable(_) => {
-            let MarkSlot::At(j) = k else {
-                return at;
-            };
-            put_diag(out, at, 8, s, i, j.0)
+    match (c, k) {
+        (CheckedToken::Inactive, _) => put_breach(out, at, Breach::NotActiveSymbol, spot, 0),
+        (CheckedToken::Constant(_), _) => put_breach(out, at, Breach::DjNotVariable, spot, 0),
+        (CheckedToken::Variable(_), Some(j)) => {
+            put_breach(out, at, Breach::DjRepeatedVariable, spot, j.0)
         }
+        (CheckedToken::Variable(_), None) => at,
     }
 }

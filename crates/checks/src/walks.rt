@@ -1,32 +1,28 @@
 // The walks over the math tokens of a statement, one for each kind of check.
-// Each goes over the statement's part of the text by the cursor, from line 1 of the part, and takes the atom of a token from the math column.
+// Each goes over the tokens of the statement's part of the text, and takes the atom of a token from the math column.
 ghost use Rattle.std.specs.Prelude.{◌≡◌, true, ◌+◌, ◌≤◌, length};
 ghost use Rattle.slots.specs.Kept.{Room};
 ghost use Rattle.slots.specs.Marks.{Atoms};
 ghost use Rattle.checks.specs.Visible.{visible_from, Calm};
 ghost use Rattle.checks.specs.Walks.{Walk, HasFloats, AllGood, WalkEap, WalkDv, CheckedDv, LastTwo, WalkPart, WalkOuter, WalkNested};
 
-use crate::FloatTokens;
+use crate::part::MathTokens;
 use crate::tokens::{check_dv_token, check_eap_token, check_nested, check_outer, is_good};
-use paper::{Atom, StatementOffset, TokenIndex, TokenOffset};
-use reader::comment::{Visible, next_visible};
+use crate::{FloatTokens, Spot};
+use paper::{Atom, StatementOffset, TokenOffset};
 use slots::cells::of_math;
 use slots::mark::forget_dv;
-use token::class::table;
-use token::cursor::Cursor;
 
 /// Whether no one of `count` tokens of a `$e`, `$a` or `$p` gets a diagnostic.
 pub fn all_good(work: &[u32], n: usize, first: usize, count: usize, s: StatementOffset) -> bool
     requires { Room work.now n × Atoms work.now n first count × HasFloats work.now n first count }
     ensures { result ≡ true → AllGood work.now n first count s.0 }
 {
-    let mut i = 0;
-    while i < count {
+    for i in 0..count {
         let atom = Atom(of_math(work, n, first + i));
-        if !is_good(work, n, atom, s, TokenIndex(i as u32)) {
+        if !is_good(work, n, atom, Spot::new(s, i as u32)) {
             return false;
         }
-        i += 1;
     }
     true
 }
@@ -64,22 +60,12 @@ pub fn walk_eap(
     requires { Walk work.now n at first (length (visible_from part.now 0)) × HasFloats work.now n first (length (visible_from part.now 0)) × Calm part.now }
     ensures { WalkEap work.now diags.old diags.new n at result first (length (visible_from part.now 0)) s.0 }
 {
-    let classes = table();
     let mut p = at;
-    let mut i = 0;
-    let mut c = Cursor { at: 0, line: 1 };
-    loop {
-        match next_visible(&classes, part, c) {
-            Visible::Token(_, d) => {
-                let atom = Atom(of_math(work, n, first + i));
-                p = check_eap_token(work, n, diags, p, atom, s, TokenIndex(i as u32));
-                i += 1;
-                c = d;
-            }
-            Visible::Refused(_, _) => return p,
-            Visible::End => return p,
-        }
+    for x in MathTokens::of(part) {
+        let atom = Atom(of_math(work, n, first + x.index));
+        p = check_eap_token(work, n, diags, p, atom, Spot::new(s, x.index as u32));
     }
+    p
 }
 
 /// The tokens of a `$d`, whose math string is `part`; each may get a mark.
@@ -95,22 +81,12 @@ pub fn walk_dv(
     requires { Walk work.old n at first (length (visible_from part.now 0)) × Calm part.now }
     ensures { WalkDv work.old work.new diags.old diags.new n at result first (length (visible_from part.now 0)) s.0 }
 {
-    let classes = table();
     let mut p = at;
-    let mut i = 0;
-    let mut c = Cursor { at: 0, line: 1 };
-    loop {
-        match next_visible(&classes, part, c) {
-            Visible::Token(_, d) => {
-                let atom = Atom(of_math(work, n, first + i));
-                p = check_dv_token(work, n, diags, p, atom, s, TokenIndex(i as u32));
-                i += 1;
-                c = d;
-            }
-            Visible::Refused(_, _) => return p,
-            Visible::End => return p,
-        }
+    for x in MathTokens::of(part) {
+        let atom = Atom(of_math(work, n, first + x.index));
+        p = check_dv_token(work, n, diags, p, atom, Spot::new(s, x.index as u32));
     }
+    p
 }
 
 /// The `count` tokens of a `$d`, whose math string is `part`; no mark is left.
@@ -137,33 +113,13 @@ pub fn float_tokens(part: &[u8], work: &[u32], n: usize, first: usize) -> FloatT
     requires { Room work.now n × (first + length (visible_from part.now 0) ≤ n) × Calm part.now }
     ensures { LastTwo work.now n first (length (visible_from part.now 0)) result.typecode.0 result.variable.0 }
 {
-    let classes = table();
-    let mut typecode: u32 = 0;
-    let mut variable: u32 = 0;
-    let mut i = 0;
-    let mut c = Cursor { at: 0, line: 1 };
-    loop {
-        match next_visible(&classes, part, c) {
-            Visible::Token(_, d) => {
-                typecode = variable;
-                variable = of_math(work, n, first + i);
-                i += 1;
-                c = d;
-            }
-            Visible::Refused(_, _) => {
-                return FloatTokens {
-                    typecode: Atom(typecode),
-                    variable: Atom(variable),
-                };
-            }
-            Visible::End => {
-                return FloatTokens {
-                    typecode: Atom(typecode),
-                    variable: Atom(variable),
-                };
-            }
-        }
+    let mut typecode = Atom(0);
+    let mut variable = Atom(0);
+    for x in MathTokens::of(part) {
+        typecode = variable;
+        variable = Atom(of_math(work, n, first + x.index));
     }
+    FloatTokens { typecode, variable }
 }
 
 /// The tokens of an outermost `$c` or `$v`, whose math string is `part`.
@@ -180,23 +136,21 @@ pub fn walk_outer(
     requires { WalkPart work.now part.now n at first from }
     ensures { WalkOuter work.now part.now diags.old diags.new n at result first from s.0 }
 {
-    let classes = table();
     let mut p = at;
-    let mut i = 0;
-    let mut c = Cursor { at: 0, line: 1 };
-    loop {
-        match next_visible(&classes, part, c) {
-            Visible::Token(x, d) => {
-                let atom = Atom(of_math(work, n, first + i));
-                let offset = TokenOffset(from + x.start as u32);
-                p = check_outer(work, n, diags, p, atom, offset, s, TokenIndex(i as u32));
-                i += 1;
-                c = d;
-            }
-            Visible::Refused(_, _) => return p,
-            Visible::End => return p,
-        }
+    for x in MathTokens::of(part) {
+        let atom = Atom(of_math(work, n, first + x.index));
+        let offset = TokenOffset(from + x.start as u32);
+        p = check_outer(
+            work,
+            n,
+            diags,
+            p,
+            atom,
+            offset,
+            Spot::new(s, x.index as u32),
+        );
     }
+    p
 }
 
 /// The tokens of a nested `$v` with this end, whose math string is `part`.
@@ -214,22 +168,12 @@ pub fn walk_nested(
     requires { WalkPart work.old part.now n at first from }
     ensures { WalkNested work.old work.new part.now diags.old diags.new n at result first from end s.0 }
 {
-    let classes = table();
     let mut p = at;
-    let mut i = 0;
-    let mut c = Cursor { at: 0, line: 1 };
-    loop {
-        match next_visible(&classes, part, c) {
-            Visible::Token(x, d) => {
-                let atom = Atom(of_math(work, n, first + i));
-                let offset = TokenOffset(from + x.start as u32);
-                let index = TokenIndex(i as u32);
-                p = check_nested(work, n, diags, p, atom, offset, end, s, index);
-                i += 1;
-                c = d;
-            }
-            Visible::Refused(_, _) => return p,
-            Visible::End => return p,
-        }
+    for x in MathTokens::of(part) {
+        let atom = Atom(of_math(work, n, first + x.index));
+        let offset = TokenOffset(from + x.start as u32);
+        let spot = Spot::new(s, x.index as u32);
+        p = check_nested(work, n, diags, p, atom, offset, end, spot);
     }
+    p
 }

@@ -3,75 +3,64 @@
 // refused. The work area is not cleared in between. `make.py` wrote them, and `stdout`.
 #![tactic(auto)]
 
-ghost use Rattle.std.specs.Prelude.{◌<◌, ◌≤◌, length};
+ghost use Rattle.std.specs.Prelude.{◌<◌, length};
 ghost use Rattle.fold.specs.Start.{Read};
 ghost use Rattle.checks_vectors.specs.Diagnosed.{Diagnosed};
 
-use paper::Reading;
-use stream::walk::u16_at;
-use stream::write::put_u16;
+use fold::start::start;
+use scopeck::statements::scope_check_all;
 
-#[derive(Clone, Copy)]
-pub enum Diagnosis {
-    Refused,
-    Used(usize),
-}
+// What stands in place of a length: the text is refused.
+const NOT_READ: u16 = 65535;
 
 // The diagnostics of a text that is read, after naming.
 fn diagnose_read(text: &[u8], work: &mut [u32], diags: &mut [u8], rows: usize) -> usize
     requires { Read text.now work.old rows }
     ensures { Diagnosed text.now work.old rows diags.old diags.new result }
 {
-    let at = fold::start::start(text, work, rows);
-    let st = scopeck::statements::scope_check_all(text, work, at.n, diags, rows, at.names);
-    st.diags
+    let at = start(text, work, rows);
+    scope_check_all(text, work, at.n, diags, rows, at.names).diags
 }
 
-// The diagnostics of any text.
-fn diagnose(text: &[u8], work: &mut [u32], diags: &mut [u8]) -> Diagnosis {
-    match reader::read(text, work) {
-        Reading::Unread(_, _) => Diagnosis::Refused,
-        Reading::Read(rows, _) => Diagnosis::Used(diagnose_read(text, work, diags, rows)),
-    }
+// The length of the diagnostics of any text, if it is read.
+fn diagnose(text: &[u8], work: &mut [u32], diags: &mut [u8]) -> Option<usize> {
+    let statements = reader::read(text, work).ok()?;
+    Some(diagnose_read(text, work, diags, statements.rows))
 }
 
-fn write_number(x: usize) {
-    let mut b = [0u8; 2];
-    put_u16(&mut b, 0, (x % 65536) as u64);
-    io::write_all(1, &b);
+fn write_number(x: u16) {
+    io::write_all(1, &x.to_le_bytes());
 }
 
 fn write_stream(diags: &[u8], used: usize) {
-    write_number(used);
-    if used <= diags.len() {
-        io::write_all(1, &diags[..used]);
+    write_number((used % 65536) as u16);
+    if let Some(stream) = diags.get(..used) {
+        io::write_all(1, stream);
     }
 }
 
-// Runs the case at a place and answers the place after it: the end, if the case is cut short.
-fn run_case(cases: &[u8], at: usize, work: &mut [u32], diags: &mut [u8]) -> usize
-    requires { at < length cases.now }
-    ensures { (at < result) × (result ≤ length cases.now) }
+// Runs the first text and answers those after it: none, if it is cut short.
+fn run_case<'a>(cases: &'a [u8], work: &mut [u32], diags: &mut [u8]) -> &'a [u8]
+    requires { 0 < length cases.now }
+    ensures { length result.now < length cases.now }
 {
-    if cases.len() - at < 2 {
-        return cases.len();
+    let Some((size, rest)) = cases.split_first_chunk::<2>() else {
+        return &[];
+    };
+    let Some((text, rest)) = rest.split_at_checked(usize::from(u16::from_le_bytes(*size))) else {
+        return &[];
+    };
+    match diagnose(text, work, diags) {
+        Some(used) => write_stream(diags, used),
+        None => write_number(NOT_READ),
     }
-    let text = at + 2;
-    let end = text + u16_at(cases, at);
-    if cases.len() < end {
-        return cases.len();
-    }
-    match diagnose(&cases[text..end], work, diags) {
-        Diagnosis::Refused => write_number(65535),
-        Diagnosis::Used(used) => write_stream(diags, used),
-    }
-    end
+    rest
 }
 
 fn run(cases: &[u8], work: &mut [u32], diags: &mut [u8]) {
-    let mut at = 0;
-    while at < cases.len() {
-        at = run_case(cases, at, work, diags);
+    let mut left = cases;
+    while !left.is_empty() {
+        left = run_case(left, work, diags);
     }
 }
 

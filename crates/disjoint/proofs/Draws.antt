@@ -105,12 +105,16 @@ drew_beyond_all b g p x (y ∷ l) h =
     drew_then r [] (drew_as (r ++ []) z (sym (append-nil r))) (drew_beyond_all b g p x l h)
 
 module _ (b : List ℕ) (g : Grid) (p x y : ℕ) (left : x < g.size) (right : y < g.size) where
-  pub drew_old : bit_at b (g.at + x * g.width) y ≡ true → Drew b b g p p (pair x y ∷ []) []
-  drew_old e = record { len = refl; sim = λ a from v s rest d. draw_old x y rest d (omega (arith, left, d.size)) (omega (arith, right, d.size)) e }
+  pub drew_old : {i : ℕ} → i ≡ g.at + x * g.width → bit_at b i y ≡ true → Drew b b g p p (pair x y ∷ []) []
+  drew_old m e = record { len = refl; sim = λ a from v s rest d. draw_old x y rest d (omega (arith, left, d.size)) (omega (arith, right, d.size)) (rw m at e) }
 
-  module _ (e : bit_at b (g.at + x * g.width) y ≡ false) {c o : List ℕ} (f : c ≡ with_bit b (g.at + x * g.width) y) (h : o ≡ with_bit c (g.at + y * g.width) x) where
+  -- i and j are where their rows begin
+  module _ {i j : ℕ} (m : i ≡ g.at + x * g.width) (k : j ≡ g.at + y * g.width) (q : bit_at b i y ≡ false) {c o : List ℕ} (f : c ≡ with_bit b i y) (h : o ≡ with_bit c j x) where
+    e : bit_at b (g.at + x * g.width) y ≡ false
+    e = rw m at q
+
     both_bits : o ≡ with_bit (with_bit b (g.at + x * g.width) y) (g.at + y * g.width) x
-    both_bits = h ∙ ap (λ t. with_bit t (g.at + y * g.width) x) f
+    both_bits = h ∙ ap (λ t. with_bit t j x) f ∙ rw (m, k)
 
     size : length o ≡ length b
     size = rw both_bits (length_with (with_bit b (g.at + x * g.width) y) (g.at + y * g.width) x ∙ length_with b (g.at + x * g.width) y)

@@ -1,24 +1,28 @@
 -- The walks of the count: what holds before, after each step and at the end of each.
 -- The proofs of the functions cite these.
 use mathlib.Core.Path.{◌≡◌, refl, sym, ap, ◌∙◌}
-use mathlib.Core.Bool.{true, false}
-use mathlib.Core.List.{List, []}
+use mathlib.Core.Bool.{Bool, true, false}
+use mathlib.Core.List.{List, [], ◌∷◌, map}
 use Prim.Native.Nat.{ℕ, suc, ◌+◌, ◌-◌, ◌*◌, ◌<◌, ◌≤◌}
 use native.Mathlib.Omega.{arith}
 use lib.Dec.{eqb, ltb}
-use lib.ListN.{length, get_or, take, drop, set, length-set}
-use lib.Seq.{take-length}
-use borrow.Author.Tests.{lt-ltb, le-ltb, le-leb, lt-leb, eq-eqb, ne_eqb}
+use lib.ListN.{length, get_or, take, set, length-set}
+use lib.Seq.{take-length, ext_get_or}
+use borrow.Author.Tests.{lt-ltb, le-ltb, le-leb, lt-leb, eq-eqb, ne_eqb, eqb-true}
+use Rattle.std.specs.Int.{from_bool}
+use Rattle.std.specs.List.{list_any, range_with_len}
+use Rattle.std.proofs.lemmas.List.FromFn.{length-map-range_with_len, get_or-map-range_with_len}
+use Rattle.paper.proofs.Tests.{split, eqb_ne}
 use Rattle.paper.specs.Base.{and, or, any, gather}
 use Rattle.paper.specs.Pairs.{pairs_in}
 use Rattle.area.specs.Cells.{statement_cell, bucket_cell, symbol_cell, math_cell, word}
 use Rattle.area.proofs.Laws.{word_other}
 use Rattle.sight.specs.Static.{stack}
-use Rattle.sight.specs.Sums.{sum}
+use Rattle.sight.specs.Sums.{sum, one}
 use Rattle.disjoint.specs.Found.{has, rising, partners}
 use Rattle.disjoint.specs.Words.{atom_at, number_at, first_of, count_of, number_of, numbers, listed, TokenNumbered, RowNumbered, Buckets}
 use Rattle.disjoint.specs.Marks.{mark_cell, mark, Remarked, Marks, CanMark, fresh, MarksOne, CanMarkRow, above, CanCountOf, CountsOf, CanCountAll, CountsAll, CanClear, ClearsMarks, PairCount}
-use Rattle.disjoint.proofs.Words.{length_numbers, numbers_at, number_next, listed_more, has_end, has_here, has_next, statement_kept, bucket_kept, cell_kept, buckets_kept, number_of_kept, numbers_kept, row_kept, stacked_kept, listed_kept}
+use Rattle.disjoint.proofs.Words.{length_numbers, numbers_at, listed_more, statement_kept, bucket_kept, cell_kept, buckets_kept, number_of_kept, numbers_kept, row_kept, stacked_kept, listed_kept}
 use Rattle.disjoint.proofs.Marks.{remarked_none, remarked_then, tally_few, marks_none, marks_as, marks_then, marks_one, above_more, rising_row, rising_append, rising_none, turn_count, clear_next, clear_end}
 use Rattle.disjoint.proofs.Bools.{and_false}
 
@@ -62,35 +66,39 @@ module _ (w : List ℕ) (n t : ℕ) where
 
 -- ---- the tokens of a row, as they are read
 pub token_here :
-    {w : List ℕ} {n v r f k : ℕ} (i : ℕ) → RowNumbered w n v r → f ≡ first_of w r → k ≡ count_of w r → i < k
-    → TokenNumbered w n (f + i)
-token_here i x p q l = rw p (x.token i (omega (arith, q)))
+    {w : List ℕ} {n v r f k t : ℕ} (i : ℕ) → RowNumbered w n v r → f ≡ first_of w r → k ≡ count_of w r → i < k → t ≡ f + i
+    → TokenNumbered w n t
+token_here i x p q l e = rw (e, p) (x.token i (omega (arith, q)))
 
--- u is looked for from the i-th on
-pub record InvNames (w : List ℕ) (n r u i : ℕ) : Type 0 where
-  pub rest : has u (drop i (numbers w n r)) ≡ has u (numbers w n r)
+-- u is looked for among the numbers as they are read
+looked_for : (u : ℕ) (f : ℕ → ℕ) (l : List ℕ) → list_any (λ i. eqb (f i) u) l ≡ any (eqb u) (map f l)
+unfolding any
+looked_for u f [] = refl
+looked_for u f (i ∷ l) =
+    split (eqb (f i) u)
+    (λ q. rw (q, eq-eqb u (f i) (sym (eqb-true (f i) u q))))
+    (λ q. rw (q, ne_eqb u (f i) (λ e. eqb_ne {x = f i} {y = u} q (sym e))) (looked_for u f l))
 
-pub names_begin : (w : List ℕ) (n r u : ℕ) → InvNames w n r u 0
-names_begin w n r u = record { rest = refl }
-
-module _ {w : List ℕ} {n r f k u i : ℕ} (h : InvNames w n r u i) (p : f ≡ first_of w r) (q : k ≡ count_of w r) where
-  next_number : {x : ℕ} → i < k → x ≡ number_at w n (f + i) - 1 → get_or (numbers w n r) i 0 ≡ x
-  next_number {x} l e = sym (number_next w n r i x (omega (arith, q)) (rw p at e))
-
-  pub names_here : {x : ℕ} → i < k → x ≡ number_at w n (f + i) - 1 → x ≡ u → true ≡ has u (numbers w n r)
-  names_here l e d =
-      sym (has_here u (numbers w n r) i (omega (arith, q, length_numbers w n r)) (next_number l e ∙ d)) ∙ h.rest
-
-  pub names_next :
-      {x : ℕ} → i < k → x ≡ number_at w n (f + i) - 1 → (x ≡ u → ⊥)
-      → InvNames w n r u (i + 1)
-  names_next l e d =
-      record { rest = has_next u (numbers w n r) i (omega (arith, q, length_numbers w n r)) (λ o. d (sym (next_number l e) ∙ o)) ∙ h.rest }
-
-  pub names_end : k ≤ i → false ≡ has u (numbers w n r)
-  names_end l = sym (has_end u (numbers w n r) i (omega (arith, q, length_numbers w n r))) ∙ h.rest
+pub names_any :
+    (w : List ℕ) (n r u : ℕ) {f k : ℕ} → f ≡ first_of w r → k ≡ count_of w r
+    → list_any (λ i. eqb (number_at w n (f + i) - 1) u) (range_with_len 0 k) ≡ has u (numbers w n r)
+unfolding has number_of
+names_any w n r u {f} {k} p q =
+    looked_for u (λ i. number_at w n (f + i) - 1) (range_with_len 0 k)
+    ∙ ap (any (eqb u))
+    (ext_get_or 0 (map (λ i. number_at w n (f + i) - 1) (range_with_len 0 k)) (numbers w n r)
+    (length-map-range_with_len (λ i. number_at w n (f + i) - 1) 0 k ∙ q ∙ sym (length_numbers w n r))
+    (λ i l.
+    let h : i < k = omega (arith, l, length-map-range_with_len (λ i. number_at w n (f + i) - 1) 0 k) in
+    get_or-map-range_with_len (λ i. number_at w n (f + i) - 1) 0 k i i 0 h (omega arith)
+    ∙ ap (λ t. number_at w n (t + i) - 1) p
+    ∙ sym (numbers_at w n r i (omega (arith, q)))))
 
 -- ---- the tokens of a row, marked
+one_number : (c : Bool) → one c ≡ from_bool c
+one_number true = refl
+one_number false = refl
+
 pub record InvRow (w₀ w : List ℕ) (n m r u s i : ℕ) : Type 0 where
   pub marks : Marks w₀ w n m u (above (take i (numbers w₀ n r)) u) s
   pub upto : i ≤ count_of w₀ r
@@ -113,25 +121,27 @@ module _ {w₀ w : List ℕ} {n m r u s i f k : ℕ} (a : CanMarkRow w₀ n m r 
   count_now : count_of w r ≡ count_of w₀ r
   count_now = statement_kept a.walk.buckets a.walk.mandatory h.marks.kept r 6 a.walk.row.here (omega arith)
 
-  pub row_can : i < k → CanMark w n m (f + i) u
-  row_can l =
+  pub row_can : {t : ℕ} → i < k → t ≡ f + i → CanMark w n m t u
+  row_can l e =
       record {
         room = (buckets_kept a.walk.buckets a.walk.mandatory h.marks.kept).room;
-        token = token_here i now (p ∙ sym first_now) (q ∙ sym count_now) l;
+        token = token_here i now (p ∙ sym first_now) (q ∙ sym count_now) l e;
         turn = omega (arith, a.turn, a.walk.mandatory, a.walk.buckets.few);
       }
 
   pub row_few : s ≤ 4095
   row_few = omega (arith, h.marks.count, tally_few w n m u, a.walk.mandatory, a.walk.buckets.few)
 
-  pub row_step : {v : List ℕ} {x : ℕ} → i < k → MarksOne w v n m (f + i) u x → InvRow w₀ v n m r u (s + x) (i + 1)
-  row_step {v} {x} l y =
+  pub row_step :
+      {v : List ℕ} {t x : ℕ} (c : Bool) → i < k → t ≡ f + i → x ≡ from_bool c → MarksOne w v n m t u (one c)
+      → InvRow w₀ v n m r u (s + x) (i + 1)
+  row_step {v} {t} {x} c l d o y =
       let b = a.walk.buckets in
       let g = a.walk.mandatory in
       let e : i < count_of w₀ r = omega (arith, q) in
       let z : number_of w n r i ≡ get_or (numbers w₀ n r) i 0 =
       number_of_kept b g h.marks.kept r a.walk.row i ∙ sym (numbers_at w₀ n r i e) in
-      let o : MarksOne w v n m (first_of w r + i) u x = rw (first_now, ← p) y in
+      let o : MarksOne w v n m (first_of w r + i) u x = rw (first_now, ← p, ← d, o, ← one_number c) y in
       let j : Marks w v n m u (λ c. and (ltb u c) (eqb c (number_of w n r i))) x =
       marks_one now (rw count_now e) (buckets_kept b g h.marks.kept) g o in
       record {

@@ -7,9 +7,8 @@ use Prim.Native.Nat.{ℕ, zero, suc, ◌+◌, ◌-◌, ◌*◌, ◌<◌, ◌≤�
 use native.Mathlib.Numerals.{add-one}
 use native.Mathlib.Omega.{arith}
 use lib.Dec.{eqb}
-use lib.ListN.{length, get_or, take, drop, drop_of_length-le}
-use lib.Seq.{drop-cons, take-suc}
-use borrow.Author.Tests.{eq-eqb, ne_eqb}
+use lib.ListN.{length, get_or, take}
+use lib.Seq.{take-suc}
 use Rattle.paper.specs.Base.{choose, or, any, gather}
 use Rattle.paper.specs.Pairs.{pairs_in}
 use Rattle.paper.proofs.Lists.{gather_append}
@@ -43,21 +42,8 @@ listed_more w n d =
     (gather_append (λ r. pairs_in (numbers w n r)) (stack w 11 d) (word w (statement_cell d 11) ∷ [])
     ∙ ap (λ p. gather (λ r. pairs_in (numbers w n r)) (stack w 11 d) ++ p) (append-nil (pairs_in (numbers w n (word w (statement_cell d 11))))))
 
--- ---- a number looked for, from the i-th on
+-- ---- a number looked for among the first ones
 module _ (u : ℕ) (l : List ℕ) (i : ℕ) where
-  pub has_end : length l ≤ i → has u (drop i l) ≡ false
-  unfolding has any
-  has_end h = rw (drop_of_length-le l h)
-
-  pub has_here : i < length l → get_or l i 0 ≡ u → has u (drop i l) ≡ true
-  unfolding has any
-  has_here h e = rw (drop-cons l i 0, eq-eqb u (get_or l i 0) (sym e))
-
-  pub has_next : i < length l → (get_or l i 0 ≡ u → ⊥) → has u (drop (i + 1) l) ≡ has u (drop i l)
-  unfolding has any
-  has_next h e = rw (add-one, drop-cons l i 0, ne_eqb u (get_or l i 0) (λ q. e (sym q)))
-
-  -- and among the first ones
   pub has_more : i < length l → has u (take (i + 1) l) ≡ or (has u (take i l)) (eqb u (get_or l i 0))
   unfolding has any
   has_more h =

@@ -6,6 +6,7 @@ use Prim.Native.Nat.{ℕ, ◌+◌, ◌*◌, ◌/◌, ◌<◌, ◌≤◌}
 use native.Mathlib.Nat.{mul-le-mul_right}
 use native.Mathlib.Omega.{arith}
 use lib.ListN.{length, take, replicate, length-append}
+use Rattle.std.specs.Int.{div_ceil}
 use Rattle.paper.specs.Base.{keep, gather}
 use Rattle.paper.specs.Pairs.{Pair, new_pairs, pairs}
 use Rattle.paper.specs.Records.{u32, pair_bytes, row_bytes}
@@ -51,6 +52,9 @@ pairs_counted {w} {n = n} {m = m} {d = d} x y =
 pub size_few : {w : List ℕ} {n at k m d : ℕ} → CanPutDisjoint w n at k m d → k ≤ 4095
 size_few x = omega (arith, x.most, x.few)
 
+pub width_is : (k : ℕ) {h : ℕ} → h ≡ div_ceil k 8 → h ≡ (k + 7) / 8
+width_is k e = omega (arith, e)
+
 pub rows_size : {k h : ℕ} → k ≤ 4095 → h ≡ (k + 7) / 8 → k * h ≤ 2096640
 rows_size {k} {h} a e = omega (arith, e, mul-le-mul_right {m = k} {n = 4095} h a)
 
@@ -80,9 +84,9 @@ pub record Laying (w v b c : List ℕ) (n at k m d p h from to : ℕ) : Type 0 w
   pub room : to ≡ from + 4 * p
 
 pub lay :
-    {w v b c : List ℕ} {n at k m d p from : ℕ} → CanPutDisjoint w n at k m d → PairCount w v n m d p
-    → (from ≡ at + 4) × Wrote b c at from (u32 p) → Laying w v b c n at k m d p ((k + 7) / 8) from (from + 4 * p)
-lay x y z = record { can = x; count = y; width = refl; wrote = z.1; start = z.0; room = refl }
+    {w v b c : List ℕ} {n at k m d p h from : ℕ} → CanPutDisjoint w n at k m d → PairCount w v n m d p → h ≡ div_ceil k 8
+    → (from ≡ at + 4) × Wrote b c at from (u32 p) → Laying w v b c n at k m d p h from (from + 4 * p)
+lay x y e z = record { can = x; count = y; width = width_is _ e; wrote = z.1; start = z.0; room = refl }
 
 module _ {w v b c : List ℕ} {n at k m d p h from to : ℕ} (x : Laying w v b c n at k m d p h from to) where
   counted : p ≡ length (once m (listed w n d))

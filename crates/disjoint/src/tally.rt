@@ -4,11 +4,13 @@ ghost use Rattle.std.specs.Prelude.{◌≡◌, ◌+◌, ◌-◌, ◌<◌};
 ghost use Rattle.disjoint.specs.Found.{has, rising};
 ghost use Rattle.disjoint.specs.Words.{number_at, numbers, TokenNumbered, CanWalk};
 ghost use Rattle.disjoint.specs.Marks.{Marks, CanMark, MarksOne, CanMarkRow, above, CanCountOf, CountsOf, CanCountAll, CountsAll, CanClear, ClearsMarks, PairCount};
+ghost use Rattle.sight.specs.Sums.{one};
 ghost use Rattle.area.specs.Cells.{bucket_cell, word};
 ghost use Rattle.slots.specs.Kept.{Room};
 ghost use Rattle.paper.specs.Pairs.{pairs_in};
 
 use paper::{Atom, StatementRow, TokenRow, VariableNumber};
+use sight::tokens::Tokens;
 use slots::cells;
 
 /// The number of the variable that is a math token of the text.
@@ -25,39 +27,29 @@ pub fn names_number(work: &[u32], n: usize, m: usize, row: StatementRow, u: Vari
     requires { CanWalk work.now n m row.0 }
     ensures { result ≡ has u.0 (numbers work.now n row.0) }
 {
-    let line = row.0 as usize;
-    let first = cells::of_statement(work, n, line, area::FIRST) as usize;
-    let count = cells::of_statement(work, n, line, area::COUNT) as usize;
-    let mut i: usize = 0;
-    while i < count {
-        let v = number(work, n, TokenRow((first + i) as u32));
-        if v.0 == u.0 {
-            return true;
-        }
-        i += 1;
-    }
-    false
+    let tokens = Tokens::of(work, n, row);
+    (0..tokens.count).any(|i| number(work, n, tokens.at(i)).0 == u.0)
 }
 
-/// Marks a math token with u + 1 if it is a mandatory variable whose number is above u: 1 if it was not marked so, else 0.
-pub fn mark_one(work: &mut [u32], n: usize, m: usize, t: TokenRow, u: VariableNumber) -> usize
+/// Marks a math token with u + 1 if it is a mandatory variable whose number is above u: whether it was not marked so.
+pub fn mark_one(work: &mut [u32], n: usize, m: usize, t: TokenRow, u: VariableNumber) -> bool
     requires { CanMark work.old n m t.0 u.0 }
-    ensures { MarksOne work.old work.new n m t.0 u.0 result }
+    ensures { MarksOne work.old work.new n m t.0 u.0 (one result) }
 {
     let v = u.0 as usize;
     let atom = cells::of_math(work, n, t.0 as usize) as usize;
     let k = cells::of_symbol(work, n, atom, area::NUMBER) as usize;
     if k <= v + 1 {
-        return 0;
+        return false;
     }
     if m < k {
-        return 0;
+        return false;
     }
     if cells::of_symbol(work, n, atom, area::MARK) as usize == v + 1 {
-        return 0;
+        return false;
     }
     cells::put_symbol(work, n, atom, area::MARK, (v + 1) as u32);
-    1
+    true
 }
 
 /// Marks so the tokens of a `$d`: how many were not marked so.
@@ -71,14 +63,10 @@ pub fn mark_above(
     requires { CanMarkRow work.old n m row.0 u.0 }
     ensures { Marks work.old work.new n m u.0 (above (numbers work.old n row.0) u.0) result }
 {
-    let line = row.0 as usize;
-    let first = cells::of_statement(work, n, line, area::FIRST) as usize;
-    let count = cells::of_statement(work, n, line, area::COUNT) as usize;
-    let mut sum: usize = 0;
-    let mut i: usize = 0;
-    while i < count {
-        sum += mark_one(work, n, m, TokenRow((first + i) as u32), u);
-        i += 1;
+    let tokens = Tokens::of(work, n, row);
+    let mut sum = 0;
+    for i in 0..tokens.count {
+        sum += usize::from(mark_one(work, n, m, tokens.at(i), u));
     }
     sum
 }
@@ -105,12 +93,10 @@ pub fn count_pairs_of(work: &mut [u32], n: usize, m: usize, ds: usize, u: Variab
     requires { CanCountOf work.old n m ds u.0 }
     ensures { CountsOf work.old work.new n m ds u.0 result }
 {
-    let mut sum: usize = 0;
-    let mut k: usize = 0;
-    while k < ds {
+    let mut sum = 0;
+    for k in 0..ds {
         let row = StatementRow(cells::of_statement(work, n, k, area::DIS));
         sum += mark_with(work, n, m, row, u);
-        k += 1;
     }
     sum
 }
@@ -120,11 +106,9 @@ pub fn count_pairs(work: &mut [u32], n: usize, m: usize, ds: usize) -> usize
     requires { CanCountAll work.old n m ds }
     ensures { CountsAll work.old work.new n m ds result }
 {
-    let mut sum: usize = 0;
-    let mut u: usize = 0;
-    while u < m {
+    let mut sum = 0;
+    for u in 0..m {
         sum += count_pairs_of(work, n, m, ds, VariableNumber(u as u32));
-        u += 1;
     }
     sum
 }
@@ -142,11 +126,9 @@ pub fn clear_marks(work: &mut [u32], n: usize, m: usize)
     requires { CanClear work.old n m }
     ensures { ClearsMarks work.old work.new n m }
 {
-    let mut k: usize = 0;
-    while k < m {
+    for k in 0..m {
         let atom = atom_of(work, n, VariableNumber(k as u32));
         cells::put_symbol(work, n, atom.0 as usize, area::MARK, 0);
-        k += 1;
     }
 }
 

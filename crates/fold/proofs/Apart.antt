@@ -29,14 +29,9 @@ use Rattle.fold.proofs.Given.{given_by}
 
 -- ---- a token without a diagnostic is that of a variable, and the first of its name
 clear : (z : Sense) (j s i : ℕ) → disjoint_diags z j s i ≡ [] → (z ≡ variable) × (ltb j i ≡ false)
-clear inactive j s i e = let y : ◌≡◌ {A = ℕ} 0 1 = cc in absurd (omega arith)
-clear constant j s i e = let y : ◌≡◌ {A = ℕ} 0 1 = cc in absurd (omega arith)
-clear variable j s i e = (
-  refl,
-  split (ltb j i)
-      (λ q. let z : _ ∷ [] ≡ [] = rw q at e in let y : ◌≡◌ {A = ℕ} 0 1 = cc in absurd (omega arith))
-      (λ q. q),
-)
+clear inactive j s i e = absurd cc
+clear constant j s i e = absurd cc
+clear variable j s i e = (refl, split (ltb j i) (λ q. let z : _ ∷ [] ≡ [] = rw q at e in absurd cc) (λ q. q))
 
 each_at : {P : ℕ → Token → Type 0} {i : ℕ} {m : List Token} → Each P i m → (j q : ℕ) → j < length m → q ≡ i + j → P q (get_or m j no_token)
 each_at each_nil j q g e = absurd (omega arith)
@@ -66,10 +61,10 @@ module _ (l : List Statement) (k : ℕ) (c : check_disjoint l (view_at l k) (stm
   of_variable t e =
       split (constant_name l t.bytes)
       (λ q.
-      let n : sense l (view_at l k) t ≡ inactive → ⊥ = λ z. (let x : variable ≡ inactive = sym e ∙ z in let y : ◌≡◌ {A = ℕ} 0 1 = cc in omega arith) in
+      let n : sense l (view_at l k) t ≡ inactive → ⊥ = λ z. (let x : variable ≡ inactive = sym e ∙ z in cc) in
       let z : var t.bytes ≡ con t.bytes =
       sym (ap (λ x. symbol_of x t.bytes) e) ∙ symbol_static l (view_at l k) (view_names l k (stmt l k).at) t n ∙ rw q in
-      let y : ◌≡◌ {A = ℕ} 0 1 = cc in absurd (omega arith))
+      absurd cc)
       (λ q. q)
 
   apart : k < length l → Apart l k

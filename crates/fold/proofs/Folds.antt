@@ -7,6 +7,9 @@ use mathlib.Core.Option.{none, some}
 use Prim.Native.Nat.{ℕ, ◌+◌, ◌*◌, ◌<◌, ◌≤◌, ◌^◌}
 use native.Mathlib.Numerals.{add-one}
 use native.Mathlib.Omega.{arith}
+use Rattle.std.specs.Int.{from_bool}
+use Rattle.std.specs.Prelude.{None, Some, Result, Ok, Err}
+use lib.Dec.{ltb}
 use lib.ListN.{length, drop, length-append}
 use Rattle.paper.specs.Base.{find, gather, table}
 use Rattle.paper.specs.Statements.{Statement}
@@ -15,6 +18,7 @@ use Rattle.paper.specs.Give.{gives, all_given}
 use Rattle.paper.specs.Records.{frame_records, frame_stream}
 use Rattle.paper.specs.Answer.{crowded, frame_at, frames_in}
 use Rattle.paper.specs.declared.Setting.{Setting}
+use Rattle.paper.specs.declared.StatementOffset.{StatementOffset}
 use Rattle.paper.proofs.Lists.{gather_append, find_append}
 use Rattle.paper.proofs.Alls.{All, all_first}
 use Rattle.area.specs.Cells.{statement_cell, word}
@@ -30,12 +34,9 @@ use Rattle.scopeck.specs.declared.Scope.{Scope}
 use Rattle.scopeck.specs.Fold as checks
 use Rattle.scopeck.proofs.Whole as laws
 use Rattle.theorems.proofs.Offsets.{give_at}
-use Rattle.frames.specs.declared.assert.Built.TheVariants.{After, TooMany}
-use Rattle.fold.specs.declared.all.Step.TheVariants as step
-use Rattle.fold.specs.declared.all.Folded.{Folded}
-use Rattle.fold.specs.declared.all.Folded.TheVariants as folded
+use Rattle.fold.specs.declared.all.Streams.{Streams}
 use Rattle.fold.specs.Turn.{SomeTurn, Told, told, over}
-use Rattle.fold.specs.Fold.{Before, SomeBefore, Stepped, Stored, Blank, SomeBlank, Whole, SomeWhole, Streamed, streams, crowd, FoldsBlank, FoldsAll}
+use Rattle.fold.specs.Fold.{Before, SomeBefore, Stepped, Blank, SomeBlank, Whole, SomeWhole, Streamed, streams, crowd, FoldsBlank, FoldsAll}
 use Rattle.fold.specs.Fold as fold
 use Rattle.fold.proofs.Kept.{numbered_same, turn_of, rows_renumbered}
 use Rattle.fold.proofs.Counts.{moved, at_most_one}
@@ -118,16 +119,13 @@ module _ {c : Setting} {t w₀ w b₀ b o₀ o : List ℕ} {n rows : ℕ} {st : 
         omega (arith, (x.sim z.holds).place, c.count, c.named.shape.few, c.room.small),
       )
 
-  pub can_count : {r i : ℕ} → SomeBlank t w₀ n rows → Stored at r i → count + i < 4294967296
-  can_count z e = let b = z.holds.checks in omega (arith, at_most_one e, x.few, b.count, b.named.shape.few, b.room.small)
-
   -- the row is still there
   pub row_room : {u : List ℕ} → SomeBlank t w₀ n rows → length u ≡ length w → Room u n × (3 * k + 3 ≤ n)
   row_room z e =
       let c = laws.before_of h x.checks z.holds.checks in
       (record { room = omega (arith, e, c.room.room); small = c.room.small }, laws.before_room c)
 
-  far_more : {l : List Statement} {u b' : List ℕ} {r i : ℕ} → Blank t w₀ n rows l → Numbered u n l [] → Told c b b' at (given_at l k) (After r) → Stored at r i
+  far_more : {l : List Statement} {u b' : List ℕ} {r i : ℕ} → Blank t w₀ n rows l → Numbered u n l [] → Told c b b' at (given_at l k) (Some r) → i ≡ from_bool (ltb at r)
       → Far c u b₀ b' n l r (count + i) (k + 1)
   far_more {l} z free (told none_here wrote) e =
       let f = x.sim z in
@@ -136,22 +134,22 @@ module _ {c : Setting} {t w₀ w b₀ b o₀ o : List ℕ} {n rows : ℕ} {st : 
         few = rw (frames_more l k) (find_append crowded (frames_in (table (given_at l) k)) (given_at l k).frame ∙ rw (f.few, none_here));
         told = wrote_as (wrote_then f.told wrote) (records_more c l k);
         place = omega (arith, f.place, wrote.place, z.unframed.short c k (omega (arith, h, z.checks.count)) none_here);
-        counted = rw (frames_more l k) (omega (arith, f.counted, moved c l k wrote.place e, length-append (frames_in (table (given_at l) k)) (given_at l k).frame));
+        counted = rw (frames_more l k) (omega (arith, f.counted, e, moved c l k at wrote.place, length-append (frames_in (table (given_at l) k)) (given_at l k).frame));
       }
 
-  pub fold_next : {u b' o' : List ℕ} {s : Scope} {r i : ℕ} → length o' ≡ length o → Stepped c t w u b b' o o' n st at k (step.Next s r) → Stored at r i
+  pub fold_next : {u b' o' : List ℕ} {s : Scope} {r i : ℕ} → length o' ≡ length o → Stepped c t w u b b' o o' n st at k (Some (s, r)) → i ≡ from_bool (ltb at r)
       → InvFold c t w₀ u b₀ b' o₀ o' n rows s r (count + i) (k + 1)
   fold_next {r = r} len (fold.next y z) e =
       record {
         checks = rows_renumbered z.kept (laws.rows_step h x.checks y len);
         len = z.len ∙ x.len;
-        few = omega (arith, x.few, at_most_one e);
+        few = omega (arith, x.few, e, at_most_one (ltb at r));
         sim = λ {l} a. let q = z.sim (turn_of (before_of a) y) in far_more a q.0 q.1 e;
       }
 
   -- ---- the end at a frame with too many variables
-  over_first : {u b' o' : List ℕ} {l : List Statement} {s : Scope} {p : ℕ} → Blank t w₀ n rows l → laws.InvRows t w₀ u o₀ o' n rows s (k + 1) → Told c b b' at (given_at l k) TooMany
-      → p ≡ word u (statement_cell k 1) → Streamed c b₀ b' o₀ o' (all_given l) (folded.TooMany (record { 0 = p }))
+  over_first : {u b' o' : List ℕ} {l : List Statement} {s : Scope} {p : ℕ} → Blank t w₀ n rows l → laws.InvRows t w₀ u o₀ o' n rows s (k + 1)
+      → Told c b b' at (given_at l k) None → p ≡ word u (statement_cell k 1) → Streamed c b₀ b' o₀ o' (all_given l) (Err (record { 0 = p }))
   over_first {l = l} {p = p} a m (over f g j) e =
       let i : k < length l = omega (arith, h, a.checks.count) in
       let q : p ≡ frame_at f =
@@ -161,8 +159,8 @@ module _ {c : Setting} {t w₀ w b₀ b o₀ o : List ℕ} {n rows : ℕ} {st : 
       ∙ sym (frame_offset l k f g) in
       rw q (crowd f (crowded_first l k f i (x.sim a).few g j))
 
-  pub fold_over : {u b' o' : List ℕ} {p : ℕ} → length o' ≡ length o → Stepped c t w u b b' o o' n st at k step.Over → p ≡ word u (statement_cell k 1)
-      → FoldsBlank c t w₀ u b₀ b' o₀ o' n rows (folded.TooMany (record { 0 = p }))
+  pub fold_over : {u b' o' : List ℕ} {p : ℕ} → length o' ≡ length o → Stepped c t w u b b' o o' n st at k None → p ≡ word u (statement_cell k 1)
+      → FoldsBlank c t w₀ u b₀ b' o₀ o' n rows (Err (record { 0 = p }))
   fold_over len (fold.over y z) e =
       let m = rows_renumbered z.kept (laws.rows_step h x.checks y len) in
       record {
@@ -176,7 +174,7 @@ module _ {c : Setting} {t w₀ w b₀ b o₀ o : List ℕ} {n rows : ℕ} {st : 
 
 -- ---- the end after all
 pub fold_end : {c : Setting} {t w₀ w b₀ b o₀ o : List ℕ} {n rows : ℕ} {st : Scope} {at count k : ℕ} → rows ≤ k → InvFold c t w₀ w b₀ b o₀ o n rows st at count k
-    → FoldsBlank c t w₀ w b₀ b o₀ o n rows (folded.Streams at st.diags count)
+    → FoldsBlank c t w₀ w b₀ b o₀ o n rows (Ok (record { frames = at; diags = st.diags; count = count }))
 unfolding frame_stream
 fold_end {c = c} {k = k} h x =
     let z = laws.rows_end h x.checks in
@@ -211,7 +209,8 @@ some_blank f x = record { of = x.of; holds = blank_of f x.holds }
 pub whole_names : {t w : List ℕ} {n rows names : ℕ} → SomeWhole t w n rows names → Room w n × (names ≤ n)
 whole_names x = laws.names_fit (record { of = x.of; holds = x.holds.checks })
 
-pub folds_all : {e : Setting} {t w v u b b' o o' : List ℕ} {n rows names : ℕ} {r : Folded} → checks.Forgotten w v n names → FoldsBlank e t v u b b' o o' n rows r → FoldsAll e t w u b b' o o' n rows names r
+pub folds_all : {e : Setting} {t w v u b b' o o' : List ℕ} {n rows names : ℕ} {r : Result Streams StatementOffset}
+    → checks.Forgotten w v n names → FoldsBlank e t v u b b' o o' n rows r → FoldsAll e t w u b b' o o' n rows names r
 folds_all f x =
     let m = kept_then (kept_wide 8 12 2 7 (omega arith) (omega arith) (omega arith) (omega arith) f.kept) x.kept in
     record {

@@ -12,6 +12,7 @@ use Rattle.paper.specs.Base.{any, keep}
 use Rattle.paper.proofs.Tests.{split, clash}
 use Rattle.paper.proofs.Alls.{All, all_none, all_more, Two, two_none, two_more, Any, any_here, any_later}
 use Rattle.forms.specs.HypRows.{among}
+use Rattle.frames.proofs.Scanned.{all_at}
 
 pub all_among : {P : ℕ → Type 0} {h : List ℕ} → All P h → (r : ℕ) → among r h ≡ true → P r
 unfolding among any
@@ -57,11 +58,6 @@ two_among {R = R} (two_more {x = x} p t) r s i j =
     (λ z. two_among t r s (rw q at i) (rw z at j)))
 
 -- ---- by place
-all_at : {P : ℕ → Type 0} {h : List ℕ} → All P h → (j : ℕ) → j < length h → P (get_or h j 0)
-all_at all_none j g = absurd (omega arith)
-all_at (all_more p a) zero g = p
-all_at (all_more p a) (suc j) g = all_at a j (omega arith)
-
 pub rises : {h : List ℕ} → Two (λ r s. r < s) h → (i j : ℕ) → i < j → j < length h → get_or h i 0 < get_or h j 0
 rises two_none i j g k = absurd (omega arith)
 rises (two_more p t) i zero g k = absurd (omega arith)

@@ -1,15 +1,15 @@
 -- What each pass leaves is what the next one asks: from the reader's promise to the start of the fold.
 -- For every statement list that the rows stand for.
-use mathlib.Core.Path.{◌≡◌, refl, sym, ◌∙◌}
+use mathlib.Core.Path.{◌≡◌, refl, ◌∙◌}
 use mathlib.Core.List.{List}
 use Prim.Native.Nat.{ℕ, ◌+◌, ◌≤◌}
 use native.Mathlib.Omega.{arith}
 use lib.ListN.{length}
+use Rattle.std.specs.Prelude.{Ok}
 use Rattle.paper.specs.Tokens.{tokens}
 use Rattle.paper.specs.Statements.{Statement}
 use Rattle.paper.specs.Reader.{Outcome, refused, given, reading}
-use Rattle.paper.specs.declared.Reading.{Reading}
-use Rattle.paper.specs.declared.Reading.TheVariants as reading
+use Rattle.paper.specs.declared.Statements.{Statements}
 use Rattle.reader.specs.Whole.{Answers, Reads}
 use Rattle.token.proofs.Counts.{few_tokens}
 use Rattle.facts.specs.Facts.{Facts}
@@ -23,18 +23,15 @@ use Rattle.fold.specs.Start.{Held, Read, Starts}
 use Rattle.fold.proofs.Short.{short_of}
 
 -- ---- the reader's promise
-answered :
-    {t v : List ℕ} (w : ℕ) {rows k : ℕ} {r : Reading} (o : Outcome (List Statement)) → reading t w ≡ o → Answers t v w o r
-    → r ≡ reading.Read rows k → Read t v rows
-answered w (refused x) e a q =
-    let z : reading.Unread x _ ≡ reading.Read _ _ = sym a.0 ∙ q in let y : ◌≡◌ {A = ℕ} 0 1 = cc in absurd (omega (arith, y))
-answered w {rows} {k} (given l) e a q =
-    let z : reading.Read (length l) _ ≡ reading.Read rows k = sym a.0 ∙ q in
-    let c : rows ≡ length l = cc in
+answered : {t v : List ℕ} (w : ℕ) (x : Statements) (o : Outcome (List Statement)) → reading t w ≡ o → Answers t v w o (Ok x) → Read t v x.rows
+answered w x (refused y) e a = let q = a.0 in let z : ◌≡◌ {A = ℕ} 0 1 = cc in absurd (omega (arith, z))
+answered w x (given l) e a =
+    let q = a.0 in
+    let c : x.rows ≡ length l = cc in
     record { of = l; holds = record { words = w; read = e; rows_of = a.1; count = c } }
 
-pub read_held : {t v : List ℕ} (w : List ℕ) {rows k : ℕ} {r : Reading} → Reads t w v r → r ≡ reading.Read rows k → Read t v rows
-read_held {t} w a q = answered (length w) (reading t (length w)) refl a q
+pub read_held : {t v : List ℕ} (w : List ℕ) (x : Statements) → Reads t w v (Ok x) → Read t v x.rows
+read_held {t} w x a = answered (length w) x (reading t (length w)) refl a
 
 -- ---- naming
 abbrev rows_n : List ℕ → ℕ

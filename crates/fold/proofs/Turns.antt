@@ -6,6 +6,7 @@ use mathlib.Core.Bool.{true, false}
 use mathlib.Core.List.{List, [], ◌∷◌, append-nil}
 use Prim.Native.Nat.{ℕ, ◌+◌, ◌*◌, ◌<◌, ◌≤◌}
 use native.Mathlib.Omega.{arith}
+use Rattle.std.specs.Prelude.{Option, Some}
 use Rattle.paper.specs.Base.{choose, find, gather}
 use Rattle.paper.specs.Statements.{Kind, $c, $v, $d, $f, $e, $a, $p, Statement}
 use Rattle.paper.specs.Frames.{Frame, frame_as}
@@ -26,8 +27,6 @@ use Rattle.slots.specs.Kept.{Room}
 use Rattle.scopeck.specs.declared.Scope.{Scope}
 use Rattle.scopeck.proofs.Numbers.{kind_f}
 use Rattle.history.specs.Accepted.{accepted}
-use Rattle.frames.specs.declared.assert.Built.{Built}
-use Rattle.frames.specs.declared.assert.Built.TheVariants.{After}
 use Rattle.frames.specs.Stub.{OfFloat, CanStub, stub_of, Stubs}
 use Rattle.frames.specs.Front.{record_kind}
 use Rattle.frames.specs.Assert.{frame_at, SomeFraming, BuiltAs, built, Frames}
@@ -38,16 +37,16 @@ use Rattle.fold.proofs.Floats.{active_rows}
 use Rattle.fold.proofs.Framing.{framing_of, frame_given}
 
 -- ---- no record, and one
-told_none : (c : Setting) {b : List ℕ} {at : ℕ} (g : Given) → g.frame ≡ [] → Told c b b at g (After at)
+told_none : (c : Setting) {b : List ℕ} {at : ℕ} (g : Given) → g.frame ≡ [] → Told c b b at g (Some at)
 unfolding find frame_records gather
 told_none c {b} {at} g e = told (rw e) (wrote_as (wrote_none b at) (rw e))
 
 told_one : (c : Setting) {b b' : List ℕ} {at r : ℕ} (g : Given) (x : Frame) → g.frame ≡ x ∷ [] → crowded x ≡ false
-    → Wrote b b' at r (frame_record (frame_as c x)) → Told c b b' at g (After r)
+    → Wrote b b' at r (frame_record (frame_as c x)) → Told c b b' at g (Some r)
 unfolding find frame_records gather
 told_one c g x e q w = told (rw (e, q)) (wrote_as w (rw e (append-nil (frame_record (frame_as c x)))))
 
-by_built : (c : Setting) {b b' : List ℕ} {at : ℕ} {r : Built} (g : Given) (x : Frame) → g.frame ≡ x ∷ [] → BuiltAs c b b' at x r → Told c b b' at g r
+by_built : (c : Setting) {b b' : List ℕ} {at : ℕ} {r : Option ℕ} (g : Given) (x : Frame) → g.frame ≡ x ∷ [] → BuiltAs c b b' at x r → Told c b b' at g r
 by_built c g x e (built q w) = told_one c g x e q w
 by_built c g x e (frames.over q s) = over x e q
 
@@ -67,14 +66,14 @@ assertion_kind $e h = absurd (omega arith)
 assertion_kind $a h = omega arith
 assertion_kind $p h = omega arith
 
-no_assertion : (q : Kind) → kind_number q < 6 → record_kind q ≡ 0
-no_assertion $c h = refl
-no_assertion $v h = refl
-no_assertion $d h = refl
-no_assertion $f h = refl
-no_assertion $e h = refl
-no_assertion $a h = absurd (omega arith)
-no_assertion $p h = absurd (omega arith)
+no_assertion : (q : Kind) → kind_number q ≢ 6 → kind_number q ≢ 7 → record_kind q ≡ 0
+no_assertion $c h g = refl
+no_assertion $v h g = refl
+no_assertion $d h g = refl
+no_assertion $f h g = refl
+no_assertion $e h g = refl
+no_assertion $a h g = absurd (omega arith)
+no_assertion $p h g = absurd (omega arith)
 
 module _ {t w : List ℕ} {n : ℕ} {l : List Statement} {st : Scope} {k : ℕ} (b : Turn t w n l st k) where
   kind_word : word w (statement_cell k 0) ≡ kind_number (stmt l k).kind
@@ -107,7 +106,7 @@ module _ {t w : List ℕ} {n : ℕ} {st : Scope} {k : ℕ} where
   turn_room x = let b = x.holds in (b.room, omega (arith, b.inside, b.named.shape.few))
 
   -- ---- nothing
-  quiet : {c : Setting} {b : List ℕ} {at : ℕ} → ((l : List Statement) → Turn t w n l st k → (given_at l k).frame ≡ []) → Turned c t w w n st k b b at (After at)
+  quiet : {c : Setting} {b : List ℕ} {at : ℕ} → ((l : List Statement) → Turn t w n l st k → (given_at l k).frame ≡ []) → Turned c t w w n st k b b at (Some at)
   quiet {c} f =
       record {
         kept = renumbered_none n w;
@@ -115,14 +114,15 @@ module _ {t w : List ℕ} {n : ℕ} {st : Scope} {k : ℕ} where
         sim = λ {l} x. (x.free, told_none c (given_at l k) (f l x));
       }
 
-  pub turn_rejected : {c : Setting} {b : List ℕ} {at : ℕ} → word w (statement_cell k 8) ≡ 0 → Turned c t w w n st k b b at (After at)
+  pub turn_rejected : {c : Setting} {b : List ℕ} {at : ℕ} → word w (statement_cell k 8) ≡ 0 → Turned c t w w n st k b b at (Some at)
   turn_rejected h = quiet (λ l x. gives_rejected l k (is_rejected x h))
 
-  pub turn_none : {c : Setting} {b : List ℕ} {at : ℕ} → word w (statement_cell k 0) ≢ 4 → word w (statement_cell k 0) < 6 → Turned c t w w n st k b b at (After at)
-  turn_none h g =
+  pub turn_none : {c : Setting} {b : List ℕ} {at : ℕ} → word w (statement_cell k 0) ≢ 4 → word w (statement_cell k 0) ≢ 6
+      → word w (statement_cell k 0) ≢ 7 → Turned c t w w n st k b b at (Some at)
+  turn_none h g q =
       quiet
       (λ l x.
-      gives_none l k (no_assertion (stmt l k).kind (omega (arith, kind_word x)))
+      gives_none l k (no_assertion (stmt l k).kind (λ e. g (kind_word x ∙ e)) (λ e. q (kind_word x ∙ e)))
       (λ e. h (kind_word x ∙ ap kind_number e)))
 
   -- ---- a stub
@@ -130,7 +130,7 @@ module _ {t w : List ℕ} {n : ℕ} {st : Scope} {k : ℕ} where
   can_stub x h = record { l = x.of; holds = float_of x.holds h }
 
   pub turn_stub : {c : Setting} {b b' : List ℕ} {at r : ℕ} → SomeTurn t w n st k → word w (statement_cell k 8) ≢ 0 → word w (statement_cell k 0) ≡ 4
-      → Stubs t w n k b b' at r → Turned c t w w n st k b b' at (After r)
+      → Stubs t w n k b b' at r → Turned c t w w n st k b b' at (Some r)
   unfolding stub_of
   turn_stub {c} x a h s =
       record {
@@ -153,7 +153,7 @@ module _ {t w : List ℕ} {n : ℕ} {st : Scope} {k : ℕ} where
         holds = framing_of x.holds (assertion_kind (stmt x.of k).kind (omega (arith, kind_word x.holds))) (is_accepted x.holds a);
       }
 
-  pub turn_full : {c : Setting} {v b b' : List ℕ} {at : ℕ} {r : Built} → word w (statement_cell k 8) ≢ 0 → 6 ≤ word w (statement_cell k 0)
+  pub turn_full : {c : Setting} {v b b' : List ℕ} {at : ℕ} {r : Option ℕ} → word w (statement_cell k 8) ≢ 0 → 6 ≤ word w (statement_cell k 0)
       → Frames c t w v n k st.es st.ds b b' at r → Turned c t w v n st k b b' at r
   turn_full {c} a h f =
       record {

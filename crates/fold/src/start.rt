@@ -18,9 +18,8 @@ pub fn start(text: &[u8], work: &mut [u32], rows: usize) -> Started
     requires { Read text.now work.old rows }
     ensures { Starts text.now work.old work.new rows result }
 {
-    let counted = count(text);
-    let n = counted.tokens + 1;
+    let n = count(text).tokens + 1;
     let names = name_all(text, work, n, rows);
     mark_constants(work, n, names);
-    Started { n: n, names: names }
+    Started { n, names }
 }

@@ -3,13 +3,13 @@
 ghost use Rattle.std.specs.Prelude.{◌<◌, ◌^◌};
 ghost use Rattle.fold.specs.Turn.{SomeTurn, Turned};
 
-use frames::assert::{Built, construct_full_frame};
+use frames::assert::construct_full_frame;
 use frames::stub::construct_stub_frame;
 use paper::{Setting, StatementRow};
 use scopeck::Scope;
 use slots::cells::of_statement;
 
-/// Stores the frame of the statement in a row, if it has one.
+/// Stores the frame of the statement in a row, if it has one: the place after it, or none for too many variables.
 pub fn frame_statement(
     text: &[u8],
     work: &mut [u32],
@@ -19,20 +19,17 @@ pub fn frame_statement(
     st: Scope,
     row: StatementRow,
     setting: Setting,
-) -> Built
+) -> Option<usize>
     requires { SomeTurn text.now work.old n st row.0 × (at < 2 ^ 56) }
     ensures { Turned setting text.now work.old work.new n st row.0 frames.old frames.new at result }
 {
     let line = row.0 as usize;
     if of_statement(work, n, line, area::ACCEPTED) == 0 {
-        return Built::After(at);
+        return Some(at);
     }
-    let kind = of_statement(work, n, line, area::KIND);
-    if kind == 4 {
-        return Built::After(construct_stub_frame(text, work, n, frames, at, row));
+    match of_statement(work, n, line, area::KIND) {
+        4 => Some(construct_stub_frame(text, work, n, frames, at, row)),
+        6 | 7 => construct_full_frame(text, work, n, frames, at, row, st.es, st.ds, setting),
+        _ => Some(at),
     }
-    if kind < 6 {
-        return Built::After(at);
-    }
-    construct_full_frame(text, work, n, frames, at, row, st.es, st.ds, setting)
 }

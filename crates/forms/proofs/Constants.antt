@@ -11,12 +11,12 @@ use Rattle.paper.specs.Expressions.{constant_in}
 use Rattle.paper.proofs.Lists.{gather_append}
 use Rattle.paper.proofs.Gather.{gather_one}
 use Rattle.paper.proofs.Made.{table_more, gather_table}
-use Rattle.area.specs.Cells.{statement_cell, math_cell, word}
+use Rattle.area.specs.Cells.{statement_cell, word}
 use Rattle.stream.specs.Wrote.{Wrote}
 use Rattle.stream.proofs.Wrote.{wrote_none, wrote_then, wrote_as}
 use Rattle.sight.specs.Sums.{sum}
 use Rattle.sight.proofs.Sums.{sum_same}
-use Rattle.forms.specs.Words.{name_bytes, atom_at, word_symbol, body_of, count_of, constants_to, constants_of, constant_size, sizes_to, NameWords, Low, RowWords, SomeName, SomeRow}
+use Rattle.forms.specs.Words.{atom_at, word_symbol, body_of, count_of, constants_to, constants_of, constant_size, sizes_to, RowWords}
 use Rattle.forms.proofs.OneName.{size_is}
 
 -- ---- one token more, after the first
@@ -32,11 +32,6 @@ sum_from f i h =
     let p : i + 1 - 1 ≡ suc (i - 1) = omega arith in
     let q : i - 1 + 1 ≡ i = omega arith in
     rw p (ap (λ k. sum (λ j. f (j + 1)) (i - 1) + f k) q)
-
--- a math token of a row, as it is read
-pub atom_read : (w : List ℕ) (n row i : ℕ) {f x : ℕ} → f ≡ word w (statement_cell row 5) → x ≡ word w (math_cell n (f + i)) → x ≡ atom_at w n row i
-unfolding atom_at
-atom_read w n row i p q = q ∙ rw p
 
 module _ (t w : List ℕ) (n row i : ℕ) (h : 1 ≤ i) where
   pub body_more : body_of t w n row (i + 1) ≡ body_of t w n row i ++ (word_symbol t w n (atom_at w n row i) ∷ [])
@@ -54,71 +49,45 @@ module _ (t w : List ℕ) (n row i : ℕ) (h : 1 ≤ i) where
 -- ---- the constants are written
 pub record InvConstants (t w b₀ b : List ℕ) (n row at a i : ℕ) : Type 0 where
   pub few : a ≤ at + 16777216 * i
-  pub from : 1 ≤ i
-  pub upto : i ≤ word w (statement_cell row 6)
   pub wrote : Wrote b₀ b at a (constants_to t w n row i)
 
-pub constants_begin : {t w : List ℕ} {n row : ℕ} (b : List ℕ) (at : ℕ) → RowWords t w n row → InvConstants t w b b n row at at 1
+pub constants_begin : (t w b : List ℕ) (n row at : ℕ) → InvConstants t w b b n row at at 1
 unfolding constants_to body_of table gather
-constants_begin b at h =
-    record { few = omega arith; from = omega arith; upto = h.some; wrote = wrote_none b at }
+constants_begin t w b n row at = record { few = omega arith; wrote = wrote_none b at }
 
-module _ {t w : List ℕ} {n row i x : ℕ} (h : RowWords t w n row) (e : x ≡ atom_at w n row i) (l : i < word w (statement_cell row 6)) where
-  pub token_words : NameWords t w n x
-  token_words = rw e (h.names i l)
-
-  pub token_low : Low (name_bytes t w n x)
-  token_low = rw e (h.low i l)
-
-pub constants_step : {t w b₀ b b' : List ℕ} {n row at a r i x : ℕ} → InvConstants t w b₀ b n row at a i → x ≡ atom_at w n row i → i < word w (statement_cell row 6)
+pub constants_step : {t w b₀ b b' : List ℕ} {n row at a r i x : ℕ} → InvConstants t w b₀ b n row at a i → 1 ≤ i → x ≡ atom_at w n row i
     → (r ≤ a + 16777216) × Wrote b b' a r (constant_in (word_symbol t w n x)) → InvConstants t w b₀ b' n row at r (i + 1)
-constants_step {t} {w} {n = n} {row = row} {i = i} h e l x =
+constants_step {t} {w} {n = n} {row = row} {i = i} h l e x =
     record {
       few = omega (arith, h.few, x.0);
-      from = omega arith;
-      upto = omega arith;
       wrote = wrote_as (wrote_then h.wrote x.1)
-          (constants_more t w n row i h.from ∙ ap (λ y. constants_to t w n row i ++ constant_in (word_symbol t w n y)) (sym e));
+          (constants_more t w n row i l ∙ ap (λ y. constants_to t w n row i ++ constant_in (word_symbol t w n y)) (sym e));
     }
 
-pub constants_end : {t w b₀ b : List ℕ} {n row at a i : ℕ} → InvConstants t w b₀ b n row at a i → word w (statement_cell row 6) ≤ i
+pub constants_end : {t w b₀ b : List ℕ} {n row at a i : ℕ} → InvConstants t w b₀ b n row at a i → i ≡ count_of w row
     → (a ≤ at + 16777216 * count_of w row) × Wrote b₀ b at a (constants_of t w n row)
 unfolding constants_of
-constants_end {t} {w} {n = n} {row = row} {i = i} h l =
-    let e : i ≡ count_of w row = omega (arith, h.upto) in
-    (omega (arith, h.few, h.upto), wrote_as h.wrote (ap (constants_to t w n row) (sym e)))
+constants_end {t} {w} {n = n} {row = row} h e =
+    (omega (arith, h.few, e), wrote_as h.wrote (ap (constants_to t w n row) (sym e)))
 
 -- ---- their bytes are counted
 pub record InvSizes (w : List ℕ) (n row s i : ℕ) : Type 0 where
   pub few : s ≤ 16777216 * i
-  pub from : 1 ≤ i
-  pub upto : i ≤ word w (statement_cell row 6)
   pub is : s ≡ sizes_to w n row i
 
-pub sizes_begin : {w : List ℕ} {n row : ℕ} → SomeRow w n row → InvSizes w n row 0 1
+pub sizes_begin : (w : List ℕ) (n row : ℕ) → InvSizes w n row 0 1
 unfolding sizes_to sum
-sizes_begin h = record { few = omega arith; from = omega arith; upto = h.words.some; is = refl }
+sizes_begin w n row = record { few = omega arith; is = refl }
 
-pub sizes_can : {w : List ℕ} {n row i x : ℕ} → SomeRow w n row → x ≡ atom_at w n row i → i < word w (statement_cell row 6) → SomeName w n x
-sizes_can h e l = record { t = h.t; words = token_words h.words e l }
-
-pub sizes_step : {w : List ℕ} {n row s r i x : ℕ} → InvSizes w n row s i → x ≡ atom_at w n row i → i < word w (statement_cell row 6)
+pub sizes_step : {w : List ℕ} {n row s r i x : ℕ} → InvSizes w n row s i → 1 ≤ i → x ≡ atom_at w n row i
     → (r ≤ 16777216) × (r ≡ constant_size w n x) → InvSizes w n row (s + r) (i + 1)
 unfolding sizes_to
-sizes_step {w} {n} {row} {s} {r} {i} h e l x =
+sizes_step {w} {n} {row} {s} {r} {i} h l e x =
     let z : r ≡ constant_size w n (atom_at w n row i) = x.1 ∙ ap (constant_size w n) e in
     record {
       few = omega (arith, h.few, x.0);
-      from = omega arith;
-      upto = omega arith;
-      is = omega (arith, h.is, z, sum_from (λ j. constant_size w n (atom_at w n row j)) i h.from);
+      is = omega (arith, h.is, z, sum_from (λ j. constant_size w n (atom_at w n row j)) i l);
     }
-
-pub sizes_end : {w : List ℕ} {n row s i : ℕ} → InvSizes w n row s i → word w (statement_cell row 6) ≤ i
-    → (s ≤ 16777216 * count_of w row) × (s ≡ sizes_to w n row (count_of w row))
-sizes_end {w} {n} {row} {s} {i} h l =
-    let e : i ≡ count_of w row = omega (arith, h.upto) in
-    (omega (arith, h.few, h.upto), h.is ∙ ap (sizes_to w n row) e)
 
 -- ---- and are as many as are written
 pub sum_gather : {A B : Type 0} (g : A → List B) (f : ℕ → A) (k : ℕ) → sum (λ j. length (g (f j))) k ≡ length (gather g (table f k))

@@ -19,7 +19,7 @@ use Rattle.sight.specs.Sums.{sum}
 use Rattle.sight.specs.Static.{stack}
 use Rattle.forms.specs.Words.{count_of, constants_of, sizes_to, essential_row, stack_constants, stack_size, RowWords, Before, StackWords, SomeRow, SomeStack}
 use Rattle.forms.specs.Ready.{Ready}
-use Rattle.forms.specs.Puts.{PutStack, StackLength, row_pool, PutPool}
+use Rattle.forms.specs.Puts.{PutStack, row_pool, PutPool}
 use Rattle.forms.proofs.Read.{constants_are}
 use Rattle.forms.proofs.Constants.{sizes_are}
 
@@ -43,63 +43,45 @@ module _ {t w : List ℕ} {n es k x : ℕ} (h : StackWords t w n es) (l : k < es
       omega (arith, f (word w (statement_cell (essential_row w k) 5)) (h.rises k l), (h.rows k l).tokens, h.small)
 
 -- ---- the constants are written
-pub record InvStack (t w b₀ b : List ℕ) (n es at a k : ℕ) : Type 0 where
+pub record InvStack (t w b₀ b : List ℕ) (n at a k : ℕ) : Type 0 where
   pub few : (c : ℕ) → Before w k c → a ≤ at + 16777216 * c
-  pub upto : k ≤ es
   pub wrote : Wrote b₀ b at a (stack_constants t w n k)
 
-pub stack_begin : (t w b : List ℕ) (n es at : ℕ) → InvStack t w b b n es at at 0
+pub stack_begin : (t w b : List ℕ) (n at : ℕ) → InvStack t w b b n at at 0
 unfolding stack_constants
-stack_begin t w b n es at =
-    record { few = λ c q. omega arith; upto = omega arith; wrote = wrote_none b at }
+stack_begin t w b n at = record { few = λ c q. omega arith; wrote = wrote_none b at }
 
-pub stack_step : {t w b₀ b b' : List ℕ} {n es at a r k x : ℕ} → StackWords t w n es → InvStack t w b₀ b n es at a k → k < es → x ≡ essential_row w k
-    → (r ≤ a + 16777216 * count_of w x) × Wrote b b' a r (constants_of t w n x) → InvStack t w b₀ b' n es at r (k + 1)
+pub stack_step : {t w b₀ b b' : List ℕ} {n es at a r k x : ℕ} → StackWords t w n es → InvStack t w b₀ b n at a k → k < es → x ≡ essential_row w k
+    → (r ≤ a + 16777216 * count_of w x) × Wrote b b' a r (constants_of t w n x) → InvStack t w b₀ b' n at r (k + 1)
 stack_step {t} {w} {n = n} {a = a} {r = r} {k = k} g h l e x =
     let y : r ≤ a + 16777216 * count_of w (essential_row w k) = rw e at x.0 in
     record {
       few = λ c q. omega (arith, h.few (word w (statement_cell (essential_row w k) 5)) (g.rises k l), q k (omega arith), y);
-      upto = omega arith;
       wrote = wrote_as (wrote_then h.wrote x.1)
           (constants_next w n k t ∙ ap (λ z. stack_constants t w n k ++ constants_of t w n z) (sym e));
     }
 
-pub stack_end : {t w b₀ b : List ℕ} {n es at a k : ℕ} → InvStack t w b₀ b n es at a k → es ≤ k → PutStack t w n es b₀ b at a
-stack_end {t} {w} {n = n} {es = es} {k = k} h l =
-    let e : es ≡ k = omega (arith, h.upto) in
-    record {
-      few = λ c q. h.few c (λ j m. q j (omega (arith, e)));
-      wrote = wrote_as h.wrote (ap (stack_constants t w n) e);
-    }
-
 -- ---- their bytes are counted
-pub record InvSize (w : List ℕ) (n es s k : ℕ) : Type 0 where
+pub record InvSize (w : List ℕ) (n s k : ℕ) : Type 0 where
   pub few : (c : ℕ) → Before w k c → s ≤ 0 + 16777216 * c
-  pub upto : k ≤ es
   pub is : s ≡ stack_size w n k
 
-pub size_begin : (w : List ℕ) (n es : ℕ) → InvSize w n es 0 0
+pub size_begin : (w : List ℕ) (n : ℕ) → InvSize w n 0 0
 unfolding stack_size sum
-size_begin w n es = record { few = λ c q. omega arith; upto = omega arith; is = refl }
+size_begin w n = record { few = λ c q. omega arith; is = refl }
 
 pub size_can : {w : List ℕ} {n es k x : ℕ} → SomeStack w n es → k < es → x ≡ essential_row w k → SomeRow w n x
 size_can h l e = record { t = h.t; words = stack_row h.words l e }
 
-pub size_step : {w : List ℕ} {n es s r k x : ℕ} → SomeStack w n es → InvSize w n es s k → k < es → x ≡ essential_row w k
-    → (r ≤ 16777216 * count_of w x) × (r ≡ sizes_to w n x (count_of w x)) → InvSize w n es (s + r) (k + 1)
+pub size_step : {w : List ℕ} {n es s r k x : ℕ} → SomeStack w n es → InvSize w n s k → k < es → x ≡ essential_row w k
+    → (r ≤ 16777216 * count_of w x) × (r ≡ sizes_to w n x (count_of w x)) → InvSize w n (s + r) (k + 1)
 size_step {w} {n} {es} {s} {r} {k} {x} g h l e y =
     let p : r ≤ 16777216 * count_of w (essential_row w k) = rw e at y.0 in
     let q : r ≡ sizes_to w n (essential_row w k) (count_of w (essential_row w k)) = y.1 ∙ ap (λ z. sizes_to w n z (count_of w z)) e in
     record {
       few = λ c b. omega (arith, h.few (word w (statement_cell (essential_row w k) 5)) (g.words.rises k l), b k (omega arith), p);
-      upto = omega arith;
       is = omega (arith, h.is, q, size_next w n k);
     }
-
-pub size_end : {w : List ℕ} {n es s k : ℕ} → InvSize w n es s k → es ≤ k → StackLength w n es s
-size_end {w} {n} {es} {s} {k} h l =
-    let e : k ≡ es = omega (arith, h.upto) in
-    record { few = λ c q. omega (arith, h.few c (λ j m. q j (omega (arith, e)))); is = h.is ∙ ap (stack_size w n) e }
 
 -- ---- and are as many as are written
 module _ {t w : List ℕ} {n es : ℕ} (h : StackWords t w n es) where
@@ -130,10 +112,6 @@ module _ {t w : List ℕ} {n : ℕ} {l : List Statement} {vs : List (List ℕ)} 
 
 -- ---- the pool
 module _ {t w : List ℕ} {n es row : ℕ} (g : StackWords t w n es) (h : RowWords t w n row) (o : Before w es (word w (statement_cell row 5))) where
-  pub pool_after : {b b₁ b₂ : List ℕ} {p q r : ℕ} → PutStack t w n es b b₁ p q
-      → (r ≤ q + 16777216 * count_of w row) × Wrote b₁ b₂ q r (constants_of t w n row) → p ≤ r
-  pool_after s c = omega (arith, s.wrote.place, c.1.place)
-
   pub pool_put : {b b₁ b₂ b₃ : List ℕ} {at q r v : ℕ} → PutStack t w n es b b₁ (at + 4) q
       → (r ≤ q + 16777216 * count_of w row) × Wrote b₁ b₂ q r (constants_of t w n row)
       → (v ≡ at + 4) × Wrote b₂ b₃ at v (u32 (r - (at + 4)))

@@ -1,28 +1,26 @@
 -- The walks over the math tokens of a row that count its variables and write its fragments, by the tokens done so far.
 -- In the words alone, without the text.
 use mathlib.Core.Path.{◌≡◌, refl, sym, ap, ◌∙◌}
-use mathlib.Core.Logic.{◌≢◌}
 use mathlib.Core.Bool.{true, false}
 use mathlib.Core.List.{List, ◌++◌}
-use Prim.Native.Nat.{ℕ, suc, ◌+◌, ◌-◌, ◌*◌, ◌<◌, ◌≤◌}
+use Prim.Native.Nat.{ℕ, suc, ◌+◌, ◌-◌, ◌*◌, ◌≤◌}
 use native.Mathlib.Omega.{arith}
 use native.Mathlib.Nat.{add-zero}
 use lib.Dec.{eqb}
-use borrow.Author.Tests.{eq-eqb, ne_eqb}
 use Rattle.paper.specs.Base.{choose, gather}
 use Rattle.paper.specs.Statements.{none_end}
 use Rattle.paper.specs.Records.{u16, u32, fragment_bytes}
 use Rattle.paper.proofs.Tests.{split}
 use Rattle.paper.proofs.Lists.{gather_append}
 use Rattle.paper.proofs.Gather.{gather_one}
-use Rattle.area.specs.Cells.{statement_cell, symbol_cell, word}
+use Rattle.area.specs.Cells.{symbol_cell, word}
 use Rattle.stream.specs.Wrote.{Wrote}
 use Rattle.stream.proofs.Wrote.{wrote_none, wrote_then, wrote_as}
 use Rattle.sight.specs.Sums.{sum}
 use Rattle.forms.specs.declared.expression.Reached.{Reached}
-use Rattle.forms.specs.Words.{atom_at, count_of, constant_size, sizes_to, variable_size, variables_to, starts, piece_by, pieces, SomeRow, RowNumbers}
+use Rattle.forms.specs.Words.{atom_at, count_of, constant_size, sizes_to, variable_size, variables_to, starts, piece_by, pieces, SomeRow}
 use Rattle.forms.specs.Spelling.{CanPutSymbol, PutSymbol, spelling, PutFragments}
-use Rattle.forms.proofs.Constants.{sum_from, sizes_can}
+use Rattle.forms.proofs.Constants.{sum_from}
 
 -- ---- one fragment, one symbol
 pub fragment_put : {b b₁ b₂ b₃ : List ℕ} {at p q r : ℕ} (from to k : ℕ) → (p ≡ at + 4) × Wrote b b₁ at p (u32 from) → (q ≡ p + 4) × Wrote b₁ b₂ p q (u32 to)
@@ -30,11 +28,11 @@ pub fragment_put : {b b₁ b₂ b₃ : List ℕ} {at p q r : ℕ} (from to k : �
 unfolding fragment_bytes
 fragment_put from to k x y z = (omega (arith, x.0, y.0, z.0), wrote_then x.1 (wrote_then y.1 z.1))
 
-module _ {w : List ℕ} {n a k s : ℕ} {p : Reached} (h : CanPutSymbol w n p a) (e : k ≡ word w (symbol_cell n a 5)) (z : (s ≤ 16777216) × (s ≡ constant_size w n a)) where
-  pub symbol_constant : (b : List ℕ) → k ≡ none_end → PutSymbol w n b b p (record { at = p.at; from = p.from; to = p.to + s; variables = p.variables }) a
+module _ {w : List ℕ} {n a s : ℕ} {p : Reached} (h : CanPutSymbol w n p a) (z : (s ≤ 16777216) × (s ≡ constant_size w n a)) where
+  pub symbol_constant : (b : List ℕ) → eqb (word w (symbol_cell n a 5)) none_end ≡ true
+      → PutSymbol w n b b p (record { at = p.at; from = p.from; to = p.to + s; variables = p.variables }) a
   unfolding gather
-  symbol_constant b d =
-      let c : eqb (word w (symbol_cell n a 5)) none_end ≡ true = eq-eqb _ _ (sym e ∙ d) in
+  symbol_constant b c =
       record {
         few = omega arith;
         starts_at = rw c;
@@ -44,11 +42,10 @@ module _ {w : List ℕ} {n a k s : ℕ} {p : Reached} (h : CanPutSymbol w n p a)
         wrote = rw c (wrote_none b p.at);
       }
 
-  pub symbol_variable : {b b' : List ℕ} {q : ℕ} → k ≢ none_end
-      → (q ≡ p.at + 10) × Wrote b b' p.at q (fragment_bytes (record { from = p.from; to = p.to; variable = k - 1 }))
+  pub symbol_variable : {b b' : List ℕ} {q v : ℕ} → v ≡ word w (symbol_cell n a 5) - 1 → eqb (word w (symbol_cell n a 5)) none_end ≡ false
+      → (q ≡ p.at + 10) × Wrote b b' p.at q (fragment_bytes (record { from = p.from; to = p.to; variable = v }))
       → PutSymbol w n b b' p (record { at = q; from = p.to; to = p.to + s; variables = p.variables + 1 }) a
-  symbol_variable d x =
-      let c : eqb (word w (symbol_cell n a 5)) none_end ≡ false = ne_eqb _ _ (λ y. d (e ∙ y)) in
+  symbol_variable e c x =
       record {
         few = omega (arith, x.0);
         starts_at = rw c;
@@ -58,7 +55,7 @@ module _ {w : List ℕ} {n a k s : ℕ} {p : Reached} (h : CanPutSymbol w n p a)
         wrote = rw c
             (wrote_as x.1
             (gather_one fragment_bytes (record { from = p.from; to = p.to; variable = word w (symbol_cell n a 5) - 1 })
-            ∙ ap (λ y. fragment_bytes (record { from = p.from; to = p.to; variable = y - 1 })) (sym e)));
+            ∙ ap (λ y. fragment_bytes (record { from = p.from; to = p.to; variable = y })) (sym e)));
       }
 
 one_most : (k : ℕ) → variable_size k ≤ 1
@@ -100,24 +97,19 @@ pub record InvFragments (w b₀ b : List ℕ) (n row a at : ℕ) (p : Reached) (
   pub few : p.at ≤ at + 10 * (i - 1)
   pub high : p.to ≤ a + 16777216 * i
   pub low : p.from ≤ p.to
-  pub some : 1 ≤ i
-  pub upto : i ≤ word w (statement_cell row 6)
   pub begins : p.from ≡ starts w n row a (i - 1)
   pub stops : p.to ≡ a + sizes_to w n row i
   pub rare : p.variables ≤ i - 1
   pub counted : p.variables ≡ variables_to w n row i
   pub wrote : Wrote b₀ b at p.at (gather fragment_bytes (pieces w n row a (i - 1)))
 
-pub fragments_begin : {w : List ℕ} {n row : ℕ} (b : List ℕ) (a at : ℕ) → SomeRow w n row
-    → InvFragments w b b n row a at (record { at = at; from = a; to = a; variables = 0 }) 1
+pub fragments_begin : (w b : List ℕ) (n row a at : ℕ) → InvFragments w b b n row a at (record { at = at; from = a; to = a; variables = 0 }) 1
 unfolding starts sizes_to variables_to sum pieces gather
-fragments_begin b a at h =
+fragments_begin w b n row a at =
     record {
       few = omega arith;
       high = omega arith;
       low = omega arith;
-      some = omega arith;
-      upto = h.words.some;
       begins = refl;
       stops = sym (add-zero a);
       rare = omega arith;
@@ -125,55 +117,41 @@ fragments_begin b a at h =
       wrote = wrote_none b at;
     }
 
-module _ {w b₀ b : List ℕ} {n row a at i x : ℕ} {p : Reached} (h : InvFragments w b₀ b n row a at p i) (e : x ≡ atom_at w n row i) (l : i < word w (statement_cell row 6)) where
-  pub fragments_can : SomeRow w n row → RowNumbers w n row → at < 2305843009213693952 → a < 2305843009213693952 → CanPutSymbol w n p x
-  fragments_can g o u v =
-      record {
-        name = sizes_can g e l;
-        numbered = λ z. o.some i (omega (arith, h.some)) l (ap (λ y. word w (symbol_cell n y 5)) (sym e) ∙ z);
-        at = omega (arith, h.few, h.upto, g.words.tokens, g.words.small);
-        from = omega (arith, h.low, h.high, h.upto, g.words.tokens, g.words.small);
-        to = omega (arith, h.high, h.upto, g.words.tokens, g.words.small);
-        variables = omega (arith, h.rare, h.upto, g.words.tokens, g.words.small);
-      }
+pub fragments_step : {w b₀ b b' : List ℕ} {n row a at i x : ℕ} {p r : Reached} → InvFragments w b₀ b n row a at p i → 1 ≤ i → x ≡ atom_at w n row i
+    → PutSymbol w n b b' p r x → InvFragments w b₀ b' n row a at r (i + 1)
+fragments_step {w} {n = n} {row = row} {a = a} {i = i} {x = x} {p = p} {r = r} h o e y =
+    let k : ℕ = word w (symbol_cell n (atom_at w n row i) 5) in
+    let d : constant_size w n x ≡ constant_size w n (atom_at w n row i) = ap (constant_size w n) e in
+    let f : word w (symbol_cell n x 5) ≡ k = ap (λ z. word w (symbol_cell n z 5)) e in
+    let s : r.from ≡ choose (eqb k none_end) p.from p.to = y.starts_at ∙ ap (λ z. choose (eqb z none_end) p.from p.to) f in
+    record {
+      few = omega (arith, h.few, o, y.few);
+      high = omega (arith, h.high, y.stops_at, y.size);
+      low = split (eqb k none_end)
+          (λ q. let z : r.from ≡ p.from = s ∙ rw q in omega (arith, z, h.low, y.stops_at))
+          (λ q. let z : r.from ≡ p.to = s ∙ rw q in omega (arith, z, y.stops_at));
+      begins = s
+          ∙ ap (λ z. choose (eqb k none_end) z p.to) h.begins
+          ∙ ap (λ z. choose (eqb k none_end) (starts w n row a (i - 1)) z) h.stops
+          ∙ sym (starts_next w n row a i o);
+      stops = omega (arith, y.stops_at, d, h.stops, sizes_next w n row a i o);
+      rare = omega (arith, h.rare, o, y.counted, one_most (word w (symbol_cell n x 5)));
+      counted = omega (arith, y.counted, h.counted, ap variable_size f, variables_next w n row a i o);
+      wrote = wrote_as (wrote_then h.wrote y.wrote)
+          (ap (gather fragment_bytes) (pieces_next w n row a i o)
+          ∙ gather_append fragment_bytes (pieces w n row a (i - 1)) (piece_by k (starts w n row a (i - 1)) (a + sizes_to w n row i))
+          ∙ ap (λ z. gather fragment_bytes (pieces w n row a (i - 1)) ++ gather fragment_bytes (piece_by k z (a + sizes_to w n row i))) (sym h.begins)
+          ∙ ap (λ z. gather fragment_bytes (pieces w n row a (i - 1)) ++ gather fragment_bytes (piece_by k p.from z)) (sym h.stops)
+          ∙ ap (λ z. gather fragment_bytes (pieces w n row a (i - 1)) ++ gather fragment_bytes (piece_by z p.from p.to)) (sym f));
+    }
 
-  pub fragments_step : {b' : List ℕ} {r : Reached} → PutSymbol w n b b' p r x → InvFragments w b₀ b' n row a at r (i + 1)
-  fragments_step {b'} {r} y =
-      let k : ℕ = word w (symbol_cell n (atom_at w n row i) 5) in
-      let d : constant_size w n x ≡ constant_size w n (atom_at w n row i) = ap (constant_size w n) e in
-      let f : word w (symbol_cell n x 5) ≡ k = ap (λ z. word w (symbol_cell n z 5)) e in
-      let s : r.from ≡ choose (eqb k none_end) p.from p.to = y.starts_at ∙ ap (λ z. choose (eqb z none_end) p.from p.to) f in
-      record {
-        few = omega (arith, h.few, h.some, y.few);
-        high = omega (arith, h.high, y.stops_at, y.size);
-        low = split (eqb k none_end)
-            (λ q. let z : r.from ≡ p.from = s ∙ rw q in omega (arith, z, h.low, y.stops_at))
-            (λ q. let z : r.from ≡ p.to = s ∙ rw q in omega (arith, z, y.stops_at));
-        some = omega arith;
-        upto = omega arith;
-        begins = s
-            ∙ ap (λ z. choose (eqb k none_end) z p.to) h.begins
-            ∙ ap (λ z. choose (eqb k none_end) (starts w n row a (i - 1)) z) h.stops
-            ∙ sym (starts_next w n row a i h.some);
-        stops = omega (arith, y.stops_at, d, h.stops, sizes_next w n row a i h.some);
-        rare = omega (arith, h.rare, h.some, y.counted, one_most (word w (symbol_cell n x 5)));
-        counted = omega (arith, y.counted, h.counted, ap variable_size f, variables_next w n row a i h.some);
-        wrote = wrote_as (wrote_then h.wrote y.wrote)
-            (ap (gather fragment_bytes) (pieces_next w n row a i h.some)
-            ∙ gather_append fragment_bytes (pieces w n row a (i - 1)) (piece_by k (starts w n row a (i - 1)) (a + sizes_to w n row i))
-            ∙ ap (λ z. gather fragment_bytes (pieces w n row a (i - 1)) ++ gather fragment_bytes (piece_by k z (a + sizes_to w n row i))) (sym h.begins)
-            ∙ ap (λ z. gather fragment_bytes (pieces w n row a (i - 1)) ++ gather fragment_bytes (piece_by k p.from z)) (sym h.stops)
-            ∙ ap (λ z. gather fragment_bytes (pieces w n row a (i - 1)) ++ gather fragment_bytes (piece_by z p.from p.to)) (sym f));
-      }
-
-pub fragments_end : {w b₀ b b₁ b₂ : List ℕ} {n row a at i q r : ℕ} {p : Reached} → SomeRow w n row → InvFragments w b₀ b n row a at p i → word w (statement_cell row 6) ≤ i
+pub fragments_end : {w b₀ b b₁ b₂ : List ℕ} {n row a at i q r : ℕ} {p : Reached} → SomeRow w n row → InvFragments w b₀ b n row a at p i → count_of w row ≡ i
     → (q ≡ p.at + 4) × Wrote b b₁ p.at q (u32 p.from) → (r ≡ q + 4) × Wrote b₁ b₂ q r (u32 p.to)
     → PutFragments w n row a b₀ b₂ at (record { at = r; from = p.from; to = p.to; variables = p.variables })
 unfolding spelling
-fragments_end {w} {n = n} {row = row} {a = a} {i = i} g h l x y =
-    let e : count_of w row ≡ i = omega (arith, h.upto) in
+fragments_end g h e x y =
     record {
-      few = omega (arith, x.0, y.0, h.few, h.upto, g.words.tokens);
+      few = omega (arith, x.0, y.0, h.few, e, g.words.tokens);
       pooled = record { is = rw e h.stops; few = omega (arith, e, h.high) };
       counted = rw e h.counted;
       wrote = rw e

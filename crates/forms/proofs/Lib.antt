@@ -12,4 +12,3 @@ pub mod Floats
 pub mod FloatWalk
 pub mod StackRows
 pub mod HypWalk
-pub mod HypNext

@@ -15,7 +15,7 @@ use Rattle.stream.specs.Wrote.{Wrote}
 use Rattle.stream.proofs.Wrote.{wrote_none, wrote_then, wrote_as}
 use Rattle.nameck.specs.Atoms.{atoms, name_of}
 use Rattle.nameck.proofs.Atoms.{atom_below, name_of_atom}
-use Rattle.forms.specs.Words.{name_bytes, names_of, NameWords, VarWords}
+use Rattle.forms.specs.Words.{name_bytes, names_of, VarWords}
 use Rattle.forms.specs.Ready.{Ready}
 use Rattle.forms.specs.Puts.{PutNames}
 use Rattle.forms.proofs.Read.{vars_few, name_words, name_is}
@@ -51,35 +51,29 @@ module _ {t w : List ℕ} {n : ℕ} {l : List Statement} {vs : List (List ℕ)} 
       ∙ table_list (take k vs) []
 
 -- ---- the walk
-pub record InvNames (t w b₀ b : List ℕ) (n vars at a k : ℕ) : Type 0 where
+pub record InvNames (t w b₀ b : List ℕ) (n at a k : ℕ) : Type 0 where
   pub few : a ≤ at + 16777220 * k
-  pub upto : k ≤ vars
   pub wrote : Wrote b₀ b at a (gather string (names_of t w n k))
 
 names_more : (t w : List ℕ) (n k : ℕ) → gather string (names_of t w n (k + 1)) ≡ gather string (names_of t w n k) ++ string (name_bytes t w n (word w (bucket_cell n k)))
 unfolding names_of
 names_more t w n k = gather_table string (λ j. name_bytes t w n (word w (bucket_cell n j))) k
 
-pub names_begin : (t w b : List ℕ) (n vars at : ℕ) → InvNames t w b b n vars at at 0
+pub names_begin : (t w b : List ℕ) (n at : ℕ) → InvNames t w b b n at at 0
 unfolding names_of table gather
-names_begin t w b n vars at = record { few = omega arith; upto = omega arith; wrote = wrote_none b at }
+names_begin t w b n at = record { few = omega arith; wrote = wrote_none b at }
 
-pub names_can : {t w : List ℕ} {n vars k x : ℕ} → VarWords t w n vars → k < vars → x ≡ word w (bucket_cell n k) → NameWords t w n x
-names_can {k = k} h l e = rw e (h.names k l)
-
-pub names_step : {t w b₀ b b' : List ℕ} {n vars at a r k x : ℕ} → InvNames t w b₀ b n vars at a k → k < vars → x ≡ word w (bucket_cell n k)
-    → (r ≤ a + 16777220) × Wrote b b' a r (string (name_bytes t w n x)) → InvNames t w b₀ b' n vars at r (k + 1)
-names_step {t} {w} {n = n} {k = k} h l e x =
+pub names_step : {t w b₀ b b' : List ℕ} {n at a r k x : ℕ} → InvNames t w b₀ b n at a k → x ≡ word w (bucket_cell n k)
+    → (r ≤ a + 16777220) × Wrote b b' a r (string (name_bytes t w n x)) → InvNames t w b₀ b' n at r (k + 1)
+names_step {t} {w} {n = n} {k = k} h e x =
     record {
       few = omega (arith, h.few, x.0);
-      upto = omega arith;
       wrote = wrote_as (wrote_then h.wrote x.1) (names_more t w n k ∙ ap (λ y. gather string (names_of t w n k) ++ string (name_bytes t w n y)) (sym e));
     }
 
-pub names_end : {t w b₀ b : List ℕ} {n vars at a k : ℕ} → InvNames t w b₀ b n vars at a k → vars ≤ k → PutNames t w n vars b₀ b at a
-names_end {t} {w} {b₀} {b} {n} {vars} {at} {a} {k} h l =
-    let e : k ≡ vars = omega (arith, h.upto) in
+pub names_end : {t w b₀ b : List ℕ} {n vars at a k : ℕ} → InvNames t w b₀ b n at a k → k ≡ vars → PutNames t w n vars b₀ b at a
+names_end {t} {w} {n = n} {vars = vars} h e =
     record {
-      few = omega (arith, h.few);
+      few = omega (arith, h.few, e);
       sim = λ s vs r q. wrote_as h.wrote (ap (gather string) (sym (names_first r vars q) ∙ ap (names_of t w n) (sym e)));
     }

@@ -1,12 +1,13 @@
 -- What the words say of a frame's parts: the bytes of a name, the symbols and the pool of a row, its fragments.
 -- `t` is the text, `w` the words, `n` is N + 1; a row is a statement's.
-use Rattle.std.specs.Prelude.{◌≢◌, List, [], ◌∷◌, ◌++◌, ℕ, zero, suc, ◌+◌, ◌-◌, ◌*◌, ◌<◌, ◌≤◌, eqb, length, get_or, take, drop}
+use Rattle.std.specs.Prelude.{◌≡◌, ◌≢◌, List, [], ◌∷◌, ◌++◌, Option, Some, None, ℕ, zero, suc, ◌+◌, ◌-◌, ◌*◌, ◌<◌, ◌≤◌, eqb, length, get_or, take, drop}
 use Rattle.paper.specs.Base.{choose, gather, table}
 use Rattle.paper.specs.Statements.{none_end}
 use Rattle.paper.specs.State.{Symbol, con, var}
 use Rattle.paper.specs.Expressions.{constant_in, Fragment}
 use Rattle.area.specs.Cells.{statement_cell, name_cell, bucket_cell, symbol_cell, math_cell, word}
 use Rattle.sight.specs.Sums.{sum}
+use Rattle.paper.specs.declared.StatementRow.{StatementRow}
 
 -- the bytes of a name, from word 0 up to word 1
 unfoldable pub name_bytes : List ℕ → List ℕ → ℕ → ℕ → List ℕ
@@ -15,6 +16,11 @@ name_bytes t w n a = take (word w (name_cell n a 1) - word w (name_cell n a 0)) 
 -- the names of the first k variables
 unfoldable pub names_of : List ℕ → List ℕ → ℕ → ℕ → List (List ℕ)
 names_of t w n k = table (λ j. name_bytes t w n (word w (bucket_cell n j))) k
+
+-- how a word says the row of a statement, or none: the row + 1, or 0
+abbrev pub row_code : Option StatementRow → ℕ
+row_code None = 0
+row_code (Some r) = r.0 + 1
 
 -- the atom of the i-th math token of a row
 unfoldable pub atom_at : List ℕ → ℕ → ℕ → ℕ → ℕ
@@ -55,6 +61,11 @@ variable_size k = choose (eqb k none_end) 0 1
 
 unfoldable pub variables_to : List ℕ → ℕ → ℕ → ℕ → ℕ
 variables_to w n row i = sum (λ j. variable_size (word w (symbol_cell n (atom_at w n row (j + 1)) 5))) (i - 1)
+
+-- the atoms of a row after the typecode
+pub record Body (w : List ℕ) (n row : ℕ) (x : List ℕ) : Type 0 where
+  pub size : length x ≡ count_of w row - 1
+  pub atom : (j : ℕ) → j < length x → get_or x j 0 ≡ atom_at w n row (j + 1)
 
 -- ---- the rows of the active `$e`, k of them: the row of one, and the bytes of their constants
 abbrev pub essential_row : List ℕ → ℕ → ℕ

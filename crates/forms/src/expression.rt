@@ -1,5 +1,5 @@
 // Expressions: the typecode, the fragments that the variables end, and the rump; places are in the pool.
-// A variable's number is its word NUMBER less 1.
+// A constant goes on with the fragment in hand, a variable ends it.
 ghost use Rattle.std.specs.Prelude.{◌≡◌, ◌+◌, ◌<◌, ◌^◌};
 ghost use Rattle.paper.specs.Records.{fragment_bytes};
 ghost use Rattle.stream.specs.Wrote.{Wrote};
@@ -35,26 +35,21 @@ pub fn put_fragment(
     stream::write::put_u16(buf, b, variable.0 as u64)
 }
 
-/// One symbol: a constant goes on with the fragment in hand, a variable ends it.
+/// One symbol, after those before it.
 pub fn put_symbol(work: &[u32], n: usize, buf: &mut [u8], p: Reached, atom: Atom) -> Reached
     requires { CanPutSymbol work.now n p atom.0 }
     ensures { PutSymbol work.now n buf.old buf.new p result atom.0 }
 {
-    let size = pool::constant_length(work, n, atom);
-    let number = words::symbol_word(work, n, atom, area::NUMBER);
-    if number == area::NO_END as usize {
-        return Reached {
-            at: p.at,
-            from: p.from,
-            to: p.to + size,
-            variables: p.variables,
-        };
+    let to = p.to + pool::constant_length(work, n, atom);
+    if words::is_constant(work, n, atom) {
+        return Reached { to, ..p };
     }
-    let at = put_fragment(buf, p.at, p.from, p.to, VariableNumber((number - 1) as u32));
+    let variable = words::variable_number(work, n, atom);
+    let at = put_fragment(buf, p.at, p.from, p.to, variable);
     Reached {
-        at: at,
+        at,
         from: p.to,
-        to: p.to + size,
+        to,
         variables: p.variables + 1,
     }
 }
@@ -71,27 +66,18 @@ pub fn put_fragments(
     requires { SomeRow work.now n row.0 × RowNumbers work.now n row.0 × (at < 2 ^ 61) × (pool < 2 ^ 61) }
     ensures { PutFragments work.now n row.0 pool buf.old buf.new at result }
 {
-    let count = words::statement_word(work, row, area::COUNT);
     let mut p = Reached {
-        at: at,
+        at,
         from: pool,
         to: pool,
         variables: 0,
     };
-    let mut i = 1;
-    while i < count {
-        let atom = words::math_word(work, n, row, TokenIndex(i as u32));
-        p = put_symbol(work, n, buf, p, atom);
-        i += 1;
+    for atom in words::body(work, n, row) {
+        p = put_symbol(work, n, buf, p, Atom(*atom));
     }
     let a = stream::write::put_u32(buf, p.at, p.from as u64);
     let b = stream::write::put_u32(buf, a, p.to as u64);
-    Reached {
-        at: b,
-        from: p.from,
-        to: p.to,
-        variables: p.variables,
-    }
+    Reached { at: b, ..p }
 }
 
 /// The expression of a row, whose constants stand in the pool from `pool` on; the number of its fragments comes last.

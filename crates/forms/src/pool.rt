@@ -1,5 +1,5 @@
 // The pool: the constants after the typecode of the active `$e` and of the assertion, each with its last byte raised.
-// A name is a constant where its word NUMBER is no end.
+// The constants of one row, of the rows of the active `$e`, and of both; written, or their bytes counted.
 ghost use Rattle.std.specs.Prelude.{◌≡◌, ◌+◌, ◌*◌, ◌<◌, ◌≤◌, ◌^◌};
 ghost use Rattle.paper.specs.Expressions.{constant_in};
 ghost use Rattle.stream.specs.Wrote.{Wrote};
@@ -7,8 +7,8 @@ ghost use Rattle.area.specs.Cells.{statement_cell, word};
 ghost use Rattle.forms.specs.Words.{name_bytes, word_symbol, count_of, constants_of, constant_size, sizes_to, NameWords, Low, RowWords, StackWords, Before, SomeName, SomeRow, SomeStack};
 ghost use Rattle.forms.specs.Puts.{PutStack, StackLength, PutPool};
 
-use crate::words;
-use paper::{Atom, StatementRow, TokenIndex};
+use crate::{names, words};
+use paper::{Atom, StatementRow};
 
 /// A name, raised, if it is a constant.
 pub fn put_constant(
@@ -22,12 +22,10 @@ pub fn put_constant(
     requires { NameWords text.now work.now n atom.0 × Low (name_bytes text.now work.now n atom.0) × (at < 2 ^ 62) }
     ensures { (result ≤ at + 16777216) × Wrote buf.old buf.new at result (constant_in (word_symbol text.now work.now n atom.0)) }
 {
-    if words::symbol_word(work, n, atom, area::NUMBER) != area::NO_END as usize {
+    if !words::is_constant(work, n, atom) {
         return at;
     }
-    let start = words::name_word(work, n, atom, area::START);
-    let stop = words::name_word(work, n, atom, area::STOP);
-    stream::write::put_raised(buf, at, &text[start..stop])
+    stream::write::put_raised(buf, at, names::name_part(text, work, n, atom))
 }
 
 /// The constants of a row after the typecode.
@@ -42,13 +40,9 @@ pub fn put_constants(
     requires { RowWords text.now work.now n row.0 × (at < 2 ^ 61) }
     ensures { (result ≤ at + 16777216 * count_of work.now row.0) × Wrote buf.old buf.new at result (constants_of text.now work.now n row.0) }
 {
-    let count = words::statement_word(work, row, area::COUNT);
     let mut a = at;
-    let mut i = 1;
-    while i < count {
-        let atom = words::math_word(work, n, row, TokenIndex(i as u32));
-        a = put_constant(text, work, n, buf, a, atom);
-        i += 1;
+    for atom in words::body(work, n, row) {
+        a = put_constant(text, work, n, buf, a, Atom(*atom));
     }
     a
 }
@@ -59,26 +53,23 @@ pub fn put_stack(text: &[u8], work: &[u32], n: usize, buf: &mut [u8], at: usize,
     ensures { PutStack text.now work.now n es buf.old buf.new at result }
 {
     let mut a = at;
-    let mut k = 0;
-    while k < es {
+    for k in 0..es {
         let row = words::essential_word(work, k);
         a = put_constants(text, work, n, buf, a, row);
-        k += 1;
     }
     a
 }
 
 /// The bytes of a name, if it is a constant.
+#[tactic(auto, unfolding(crate::specs::Words::constant_size))]
 pub fn constant_length(work: &[u32], n: usize, atom: Atom) -> usize
     requires { SomeName work.now n atom.0 }
     ensures { (result ≤ 16777216) × (result ≡ constant_size work.now n atom.0) }
 {
-    if words::symbol_word(work, n, atom, area::NUMBER) != area::NO_END as usize {
+    if !words::is_constant(work, n, atom) {
         return 0;
     }
-    let start = words::name_word(work, n, atom, area::START);
-    let stop = words::name_word(work, n, atom, area::STOP);
-    stop - start
+    words::name_range(work, n, atom).len()
 }
 
 /// The bytes of the constants of a row after the typecode.
@@ -86,13 +77,9 @@ pub fn constants_length(work: &[u32], n: usize, row: StatementRow) -> usize
     requires { SomeRow work.now n row.0 }
     ensures { (result ≤ 16777216 * count_of work.now row.0) × (result ≡ sizes_to work.now n row.0 (count_of work.now row.0)) }
 {
-    let count = words::statement_word(work, row, area::COUNT);
     let mut sum = 0;
-    let mut i = 1;
-    while i < count {
-        let atom = words::math_word(work, n, row, TokenIndex(i as u32));
-        sum += constant_length(work, n, atom);
-        i += 1;
+    for atom in words::body(work, n, row) {
+        sum += constant_length(work, n, Atom(*atom));
     }
     sum
 }
@@ -103,11 +90,9 @@ pub fn stack_length(work: &[u32], n: usize, es: usize) -> usize
     ensures { StackLength work.now n es result }
 {
     let mut sum = 0;
-    let mut k = 0;
-    while k < es {
+    for k in 0..es {
         let row = words::essential_word(work, k);
         sum += constants_length(work, n, row);
-        k += 1;
     }
     sum
 }

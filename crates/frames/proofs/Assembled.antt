@@ -30,7 +30,7 @@ use Rattle.frames.specs.Front.{OfAssertion}
 use Rattle.frames.specs.InHand.{Whole}
 use Rattle.frames.specs.Assert.{frame_at, needed, Apart, Framing}
 use Rattle.frames.proofs.Variables.{mandatory_scanned, optional_scanned}
-use Rattle.frames.proofs.Scanned.{scanned_grown, rows_grown, static_member, rows_member, names_member}
+use Rattle.frames.proofs.Scanned.{all_at, scanned_grown, rows_grown, static_member, rows_member, names_member}
 
 -- ---- what a numbering leaves alone
 pub stack_renumbered :
@@ -103,11 +103,6 @@ module _ {t w : List ℕ} {n : ℕ} {l : List Statement} {h : List ℕ} {row es 
   crowded_is = rw f.ordered (ap (λ x. ltb 4095 (length x)) all_variables)
 
   -- ---- while it is written
-  apart_at : {d : List ℕ} → All (Apart l) d → (j : ℕ) → j < length d → Apart l (get_or d j 0)
-  apart_at all_none j k = absurd (omega (arith, k))
-  apart_at (all_more a b) zero k = a
-  apart_at (all_more a b) (suc j) k = apart_at b j (omega (arith, k))
-
   names_few : length (atoms l) < n
   names_few = omega (arith, f.assertion.named.few)
 
@@ -128,7 +123,7 @@ module _ {t w : List ℕ} {n : ℕ} {l : List Statement} {h : List ℕ} {row es 
   named_at : {v : List ℕ} → Renumbered n w v → (j : ℕ) → j < ds → Names l (scanned_rows l 0 (stack w 11 ds) (needed l h row)) (get_or (stack v 11 ds) j 0)
   named_at x j q =
       let g : j < length (stack w 11 ds) = omega (arith, stack_length w 11 ds, q) in
-      let a = apart_at f.apart j g in
+      let a = all_at f.apart j g in
       rw (stack_renumbered 11 ds x (omega arith) (omega (arith, statements_few, f.depth)))
       (record {
         here = a.here;

@@ -26,17 +26,7 @@ regroup :
     (a b c d e f g h i j x y z : List ℕ)
     → ((a ++ (b ++ (c ++ (d ++ e)))) ++ (f ++ g)) ++ (((h ++ i) ++ j) ++ (x ++ (y ++ z)))
     ≡ a ++ (b ++ (c ++ (d ++ (e ++ (f ++ (g ++ (h ++ (i ++ (j ++ (x ++ (y ++ z)))))))))))
-regroup a b c d e f g h i j x y z =
-    rw (
-      append_assoc (a ++ (b ++ (c ++ (d ++ e)))) (f ++ g) (((h ++ i) ++ j) ++ (x ++ (y ++ z))),
-      append_assoc a (b ++ (c ++ (d ++ e))) ((f ++ g) ++ (((h ++ i) ++ j) ++ (x ++ (y ++ z)))),
-      append_assoc b (c ++ (d ++ e)) ((f ++ g) ++ (((h ++ i) ++ j) ++ (x ++ (y ++ z)))),
-      append_assoc c (d ++ e) ((f ++ g) ++ (((h ++ i) ++ j) ++ (x ++ (y ++ z)))),
-      append_assoc d e ((f ++ g) ++ (((h ++ i) ++ j) ++ (x ++ (y ++ z)))),
-      append_assoc f g (((h ++ i) ++ j) ++ (x ++ (y ++ z))),
-      append_assoc (h ++ i) j (x ++ (y ++ z)),
-      append_assoc h i (j ++ (x ++ (y ++ z))),
-    )
+regroup a b c d e f g h i j x y z = simp append_assoc
 
 -- the length of a record counts its kind
 framed_body : (k : ℕ) (p : List ℕ) → framed k p ≡ u32 (length (u16 k ++ p)) ++ (u16 k ++ p)

@@ -80,8 +80,8 @@ float_words {t} {w} {n} {row} {l} h =
       end = h.named.shape.end row h.here;
       maths = rw first (math_row h.named.shape row 1 h.here (omega (arith, two)));
       label = spelt h.named h.facts h.small (label_in l row h.here bears) (h.named.label row h.here bears);
-      typecode = spelt h.named h.facts h.small (token_in l row 0 h.here (omega (arith, two))) (ap (λ f. word w (math_cell n (f + 0))) first ∙ h.named.math row 0 h.here (omega (arith, two)));
-      variable = spelt h.named h.facts h.small (token_in l row 1 h.here (omega (arith, two))) (ap (λ f. word w (math_cell n (f + 1))) first ∙ h.named.math row 1 h.here (omega (arith, two)));
+      typecode = symbol 0 (omega (arith, two));
+      variable = symbol 1 (omega (arith, two));
     }
   where
     shape : Shaped t (stmt l row)
@@ -95,6 +95,11 @@ float_words {t} {w} {n} {row} {l} h =
 
     first : word w (statement_cell row 5) ≡ before l row
     first = h.named.shape.first row h.here
+
+    symbol : (i : ℕ) → i < length (stmt l row).math → Spelt t w n (atom_at w n row i) (token (stmt l row) i).bytes
+    symbol i k =
+        spelt h.named h.facts h.small (token_in l row i h.here k)
+        (ap (λ f. word w (math_cell n (f + i))) first ∙ h.named.math row i h.here k)
 
 pub stub_words : {t w : List ℕ} {n row : ℕ} (c : CanStub t w n row) → FloatWords t w n row (stmt c.l row)
 stub_words c = float_words c.holds

@@ -23,7 +23,9 @@ number_past : (b : List ℕ) (at n : ℕ) → length b ≤ at → Wrote b b at (
 number_past b at n h = wrote_skip b at (at + 4) (u32 n) (omega (arith, length_u32 n)) (omega arith)
 
 -- what stands past the buffer may stand further on
-middle_moved : {t w b b' : List ℕ} {n row es v k at r : ℕ} (z : ℕ) → length b < at → PutMiddle t w n row es v k b b' at r → PutMiddle t w n row es v k b b' (at + z) (r + z)
+middle_moved :
+    {t w b b' : List ℕ} {n row es v k at r : ℕ} (z : ℕ) → length b < at → PutMiddle t w n row es v k b b' at r
+    → PutMiddle t w n row es v k b b' (at + z) (r + z)
 middle_moved z h x =
     record {
       few = omega (arith, x.few);
@@ -33,7 +35,9 @@ middle_moved z h x =
     }
 
 -- the pool of z bytes
-pool_past : {t w b : List ℕ} {n row es v k at z : ℕ} → SomeInHand t w n row es v k → length b ≤ at → PoolEnd w n es row z → PutPool t w n es row b b at (at + 4 + z)
+pool_past :
+    {t w b : List ℕ} {n row es v k at z : ℕ} → SomeInHand t w n row es v k → length b ≤ at → PoolEnd w n es row z
+    → PutPool t w n es row b b at (at + 4 + z)
 pool_past {t} {w} {b} {n} {row} {es} {at = at} {z} c h e =
     let s = e.stack in
     let p : s ≡ length (stack_constants t w n es) = e.counted.is ∙ stack_sizes (hand_stack c) in

@@ -15,12 +15,18 @@ use Rattle.paper.specs.Checks.{no_token}
 use Rattle.paper.specs.Variables.{member, variables_of}
 use Rattle.paper.proofs.Tests.{split, clash}
 use Rattle.paper.proofs.Names.{Grown, grown_none, grown_then, grown_member, see_grown, see_self, sights_member}
-use Rattle.paper.proofs.Alls.{All, all_more}
+use Rattle.paper.proofs.Alls.{All, all_none, all_more}
 use Rattle.reader.specs.Rows.{stmt}
 use Rattle.sight.specs.Static.{constant_name, static}
 use Rattle.sight.specs.Numbered.{scan_name, scanned, scanned_rows}
 use Rattle.forms.specs.HypRows.{among}
 use Rattle.frames.proofs.Variables.{scanned_static}
+
+-- what holds of all rows, by place
+pub all_at : {P : ℕ → Type 0} {h : List ℕ} → All P h → (j : ℕ) → j < length h → P (get_or h j 0)
+all_at all_none j g = absurd (omega arith)
+all_at (all_more p a) zero g = p
+all_at (all_more p a) (suc j) g = all_at a j (omega arith)
 
 -- ---- names stay
 name_grown : (l : List Statement) (vs : List (List ℕ)) (x : List ℕ) → Grown vs (scan_name l vs x)

@@ -2,11 +2,12 @@
 -- For all that the words stand for.
 use mathlib.Core.Path.{◌≡◌, refl, sym, ap, ◌∙◌}
 use mathlib.Core.List.{List, [], ◌++◌, map}
-use Prim.Native.Nat.{ℕ, ◌<◌, ◌≤◌, zero, suc}
+use Prim.Native.Nat.{ℕ, ◌<◌, ◌≤◌}
 use native.Mathlib.Omega.{arith}
 use lib.ListN.{length, get_or, take}
 use lib.Seq.{take-length}
 use borrow.Author.Tests.{lt-ltb, le-ltb}
+use Rattle.std.specs.Prelude.{None, Some}
 use Rattle.paper.specs.Statements.{Statement}
 use Rattle.paper.specs.Variables.{mandatory}
 use Rattle.paper.specs.Frames.{frame_as}
@@ -14,18 +15,16 @@ use Rattle.paper.specs.Records.{u32, frame_record}
 use Rattle.paper.specs.declared.Setting.{Setting}
 use Rattle.paper.specs.declared.Setting.TheVariants as setting
 use Rattle.paper.proofs.Names.{grown_length}
-use Rattle.paper.proofs.Alls.{All, all_none, all_more}
 use Rattle.stream.proofs.Wrote.{wrote_as}
 use Rattle.reader.specs.Rows.{stmt}
 use Rattle.sight.specs.Static.{static, row_hyp, stack}
 use Rattle.sight.specs.Numbered.{scanned_rows, Holds, SomeHold, CanScan, Scans, CanScanAll, ScansAll, Forgets}
 use Rattle.sight.proofs.Numbering.{renumbered_then}
 use Rattle.sight.proofs.Stacks.{stack_length}
-use Rattle.frames.specs.declared.assert.Built.TheVariants.{After, TooMany}
 use Rattle.frames.specs.InHand.{body, Whole, SomeWhole, PutFrame}
-use Rattle.frames.specs.Assert.{frame_at, needed, Apart, Framing, SomeFraming, drawn_of, built, over, Frames}
+use Rattle.frames.specs.Assert.{frame_at, needed, Framing, SomeFraming, drawn_of, built, over, Frames}
 use Rattle.frames.proofs.Body.{frame_body, short_body}
-use Rattle.frames.proofs.Scanned.{rows_grown}
+use Rattle.frames.proofs.Scanned.{all_at, rows_grown}
 use Rattle.frames.proofs.Parts.{grown_front}
 use Rattle.frames.proofs.Assembled.{stack_renumbered, needed_is, all_variables, crowded_is, whole_of}
 
@@ -106,13 +105,7 @@ module _ {t w w₁ : List ℕ} {n row es ds a : ℕ} (s₁ : ScansAll w w₁ n 0
     -- ---- the third: the active `$d`
     rows_inside :
         (l : List Statement) (h : List ℕ) → Framing t w n l h row es ds → (j : ℕ) → j < ds → get_or (stack w₂ 11 ds) j 0 < length l
-    rows_inside l h f j q =
-        rw (same_stack l h f) (apart_inside f.apart j (omega (arith, stack_length w 11 ds, q)))
-      where
-        apart_inside : {d : List ℕ} → All (Apart l) d → (i : ℕ) → i < length d → get_or d i 0 < length l
-        apart_inside all_none i k = absurd (omega (arith, k))
-        apart_inside (all_more x y) zero k = x.here
-        apart_inside (all_more x y) (suc i) k = apart_inside y i (omega (arith, k))
+    rows_inside l h f j q = rw (same_stack l h f) (all_at f.apart j (omega (arith, stack_length w 11 ds, q))).here
 
     pub can_third : SomeFraming t w n row es ds → CanScanAll w₂ n m 11 ds 0
     can_third c =
@@ -169,7 +162,7 @@ module _ {t w w₁ : List ℕ} {n row es ds a : ℕ} (s₁ : ScansAll w w₁ n 0
 
       -- ---- too many variables
       pub frames_over :
-          (e : Setting) {u b : List ℕ} {at : ℕ} → 4095 < v → Forgets w₃ u n v → Frames e t w u n row es ds b b at TooMany
+          (e : Setting) {u b : List ℕ} {at : ℕ} → 4095 < v → Forgets w₃ u n v → Frames e t w u n row es ds b b at None
       frames_over e big g =
           record {
             kept = renumbered_then (renumbered_then (renumbered_then s₁.kept s₂.kept) s₃.kept) g.kept;
@@ -183,7 +176,7 @@ module _ {t w w₁ : List ℕ} {n row es ds a : ℕ} (s₁ : ScansAll w w₁ n 0
       -- ---- written
       pub frames_built :
           (e : Setting) {u₁ u₂ b b' : List ℕ} {at r z : ℕ} → v ≤ 4095 → z ≡ drawn_of e v m → PutFrame t w₃ u₁ n row es ds z m b b' at r
-          → length b' ≡ length b → Forgets u₁ u₂ n v → Frames e t w u₂ n row es ds b b' at (After r)
+          → length b' ≡ length b → Forgets u₁ u₂ n v → Frames e t w u₂ n row es ds b b' at (Some r)
       frames_built e {z = z} few q p len g =
           record {
             kept = renumbered_then (renumbered_then (renumbered_then s₁.kept s₂.kept) s₃.kept) (rw p.words at g.kept);

@@ -1,6 +1,6 @@
 -- The frame of an accepted assertion, from the words as they are between statements to the words as they are again.
 -- `h` are the rows of the active hypotheses, in text order; the rows of the active `$d` are on their stack.
-use Rattle.std.specs.Prelude.{◌≡◌, ◌≢◌, true, false, List, [], map, ℕ, ◌<◌, ◌≤◌, length, get_or}
+use Rattle.std.specs.Prelude.{◌≡◌, ◌≢◌, true, false, Option, None, Some, List, [], map, ℕ, ◌<◌, ◌≤◌, length, get_or}
 use Rattle.paper.specs.Statements.{Statement}
 use Rattle.paper.specs.Checks.{token}
 use Rattle.paper.specs.Variables.{mandatory}
@@ -20,8 +20,6 @@ use Rattle.sight.specs.Numbered.{Numbered, Renumbered}
 use Rattle.history.specs.Accepted.{is_hyp}
 use Rattle.forms.specs.HypRows.{HypRows}
 use Rattle.disjoint.specs.Written.{names_at}
-use Rattle.frames.specs.declared.assert.Built.{Built}
-use Rattle.frames.specs.declared.assert.Built.TheVariants.{After, TooMany}
 use Rattle.frames.specs.Front.{record_kind, OfAssertion}
 
 -- the frame by the definition
@@ -64,11 +62,11 @@ drawn_of setting.Short v m = m
 drawn_of setting.Full v m = v
 
 -- written as the setting c has it, with the place after it; or with over 4,095 variables
-pub data BuiltAs (c : Setting) (b b' : List ℕ) (at : ℕ) (x : Frame) : Built → Type 0 where
-  built : {r : ℕ} → crowded x ≡ false → Wrote b b' at r (frame_record (frame_as c x)) → BuiltAs c b b' at x (After r)
-  over : crowded x ≡ true → b' ≡ b → BuiltAs c b b' at x TooMany
+pub data BuiltAs (c : Setting) (b b' : List ℕ) (at : ℕ) (x : Frame) : Option ℕ → Type 0 where
+  built : {r : ℕ} → crowded x ≡ false → Wrote b b' at r (frame_record (frame_as c x)) → BuiltAs c b b' at x (Some r)
+  over : crowded x ≡ true → b' ≡ b → BuiltAs c b b' at x None
 
-pub record Frames (c : Setting) (t w v : List ℕ) (n row es ds : ℕ) (b b' : List ℕ) (at : ℕ) (r : Built) : Type 0 where
+pub record Frames (c : Setting) (t w v : List ℕ) (n row es ds : ℕ) (b b' : List ℕ) (at : ℕ) (r : Option ℕ) : Type 0 where
   pub kept : Renumbered n w v
   pub len : length b' ≡ length b
   pub sim :

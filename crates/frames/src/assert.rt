@@ -3,15 +3,9 @@
 ghost use Rattle.std.specs.Prelude.{◌≡◌, ◌<◌, ◌^◌};
 ghost use Rattle.frames.specs.Assert.{drawn_of, SomeFraming, Frames};
 
+use crate::Frame;
 use crate::scan::{scan_dv, scan_expression};
 use paper::{Setting, StatementRow, TokenIndex};
-
-/// The place after the record, or too many variables.
-#[derive(Clone, Copy)]
-pub enum Built {
-    After(usize),
-    TooMany,
-}
 
 /// The most variables of a frame.
 pub const MOST_VARIABLES: usize = 4095;
@@ -26,8 +20,8 @@ fn drawn(setting: Setting, vars: usize, mandatory: usize) -> usize
     }
 }
 
-/// Stores the frame of the assertion in a row, with `es` active `$e` and `ds` active `$d`. All its variables are numbered and
-/// counted, whichever are written.
+/// Stores the frame of the assertion in a row, with `es` active `$e` and `ds` active `$d`: the place after the record, or none
+/// for too many variables. All its variables are numbered and counted, whichever are written.
 pub fn construct_full_frame(
     text: &[u8],
     work: &mut [u32],
@@ -38,7 +32,7 @@ pub fn construct_full_frame(
     es: usize,
     ds: usize,
     setting: Setting,
-) -> Built
+) -> Option<usize>
     requires { SomeFraming text.now work.old n row.0 es ds × (at < 2 ^ 56) }
     ensures { Frames setting text.now work.old work.new n row.0 es ds buf.old buf.new at result }
 {
@@ -47,10 +41,17 @@ pub fn construct_full_frame(
     let vars = scan_dv(work, n, mandatory, ds);
     if MOST_VARIABLES < vars {
         sight::forget(work, n, vars);
-        return Built::TooMany;
+        return None;
     }
     let size = drawn(setting, vars, mandatory);
-    let after = crate::full::put_frame(text, work, n, buf, at, row, es, ds, size, mandatory);
+    let frame = Frame {
+        row,
+        es,
+        ds,
+        size,
+        mandatory,
+    };
+    let after = frame.put(text, work, n, buf, at);
     sight::forget(work, n, vars);
-    Built::After(after)
+    Some(after)
 }

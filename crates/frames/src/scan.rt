@@ -20,11 +20,9 @@ pub fn scan_dv(work: &mut [u32], n: usize, vars: usize, ds: usize) -> usize
 {
     let outer = lookup_global_dv(work, n, ds);
     let mut v = sight::scan_all(work, n, vars, area::DIS, outer, TokenIndex(0));
-    let mut k = outer;
-    while k < ds {
+    for k in outer..ds {
         let row = StatementRow(work[area::statement(k, area::DIS)]);
         v = sight::scan(work, n, v, row, TokenIndex(0));
-        k += 1;
     }
     v
 }

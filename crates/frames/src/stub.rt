@@ -1,21 +1,11 @@
 // The stub frame of an accepted `$f`.
 // Names come from the text, as parts, by the words of their atoms.
-ghost use Rattle.std.specs.Prelude.{◌≡◌, ◌<◌, ◌^◌};
-ghost use Rattle.forms.specs.Words.{name_bytes, NameWords};
+ghost use Rattle.std.specs.Prelude.{◌<◌, ◌^◌};
 ghost use Rattle.frames.specs.Stub.{CanStub, Stubs};
 
+use forms::names::name_part;
 use forms::words;
-use paper::{Atom, StatementOffset, StatementRow, TokenIndex};
-
-/// The bytes of a name.
-pub fn name_part<'a>(text: &'a [u8], work: &[u32], n: usize, atom: Atom) -> &'a [u8]
-    requires { NameWords text.now work.now n atom.0 }
-    ensures { result.now ≡ name_bytes text.now work.now n atom.0 }
-{
-    let start = words::name_word(work, n, atom, area::START);
-    let stop = words::name_word(work, n, atom, area::STOP);
-    &text[start..stop]
-}
+use paper::{StatementOffset, StatementRow, TokenIndex};
 
 /// Stores the stub frame of the `$f` in a row.
 pub fn construct_stub_frame(

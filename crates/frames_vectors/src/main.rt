@@ -8,11 +8,14 @@ ghost use Rattle.std.specs.Prelude.{◌≡◌, ◌<◌, ◌≤◌, length};
 ghost use Rattle.fold.specs.Start.{Read};
 ghost use Rattle.frames_vectors.specs.Framed.{Framed};
 
-use fold::all::{Folded, fold_all};
+use fold::all::{Streams, fold_all};
 use fold::start::start;
-use paper::{Reading, Setting};
-use stream::walk::u32_at;
-use stream::write::put_u32;
+use paper::{Setting, StatementOffset};
+
+// What stands in place of a length: the text is not read, or a frame has too many variables.
+const NOT_READ: u32 = 4294967295;
+
+const CROWDED: u32 = 4294967294;
 
 // Both streams of a text that is read.
 fn frame_read(
@@ -21,7 +24,7 @@ fn frame_read(
     frames: &mut [u8],
     diags: &mut [u8],
     rows: usize,
-) -> Folded
+) -> Result<Streams, StatementOffset>
     requires { Read text.now work.old rows }
     ensures { Framed text.now work.old rows frames.old frames.new diags.old diags.new result }
 {
@@ -29,25 +32,23 @@ fn frame_read(
     fold_all(text, work, s.n, frames, diags, rows, s.names, Setting::Full)
 }
 
-fn write_number(x: u64) {
-    let mut b = [0u8; 4];
-    put_u32(&mut b, 0, x);
-    io::write_all(1, &b);
+fn write_number(x: u32) {
+    io::write_all(1, &x.to_le_bytes());
 }
 
 fn write_stream(frames: &[u8], used: usize) {
-    write_number(used as u64);
-    if used <= frames.len() {
-        io::write_all(1, &frames[..used]);
+    write_number((used % 4294967296) as u32);
+    if let Some(stream) = frames.get(..used) {
+        io::write_all(1, stream);
     }
 }
 
-fn write_answer(frames: &[u8], folded: Folded) {
+fn write_answer(frames: &[u8], folded: Result<Streams, StatementOffset>) {
     match folded {
-        Folded::Streams(used, _, _) => write_stream(frames, used),
-        Folded::TooMany(at) => {
-            write_number(4294967294);
-            write_number(at.0 as u64);
+        Ok(streams) => write_stream(frames, streams.frames),
+        Err(at) => {
+            write_number(CROWDED);
+            write_number(at.0);
         }
     }
 }
@@ -55,11 +56,11 @@ fn write_answer(frames: &[u8], folded: Folded) {
 // The frames of any text.
 fn run_text(text: &[u8], work: &mut [u32], frames: &mut [u8], diags: &mut [u8]) {
     match reader::read(text, work) {
-        Reading::Unread(_, _) => write_number(4294967295),
-        Reading::Read(rows, _) => {
-            let folded = frame_read(text, work, frames, diags, rows);
+        Ok(statements) => {
+            let folded = frame_read(text, work, frames, diags, statements.rows);
             write_answer(frames, folded);
         }
+        Err(_) => write_number(NOT_READ),
     }
 }
 
@@ -67,49 +68,38 @@ fn run_text(text: &[u8], work: &mut [u32], frames: &mut [u8], diags: &mut [u8]) 
 fn words_for(text: &[u8], most: usize) -> usize
     ensures { result ≤ most }
 {
-    let counted = token::count::count(text);
-    if counted.tokens < most / 16 {
-        return 16 * (counted.tokens + 1);
-    }
-    most
+    let rows = token::count::count(text).tokens.saturating_add(1);
+    rows.saturating_mul(16).min(most)
 }
 
-// Runs the text at a place and answers the place after it: the end, if the text is cut short.
-fn run_case(cases: &[u8], at: usize, work: &mut [u32], frames: &mut [u8], diags: &mut [u8]) -> usize
-    requires { at < length cases.now }
-    ensures { (at < result) × (result ≤ length cases.now) }
+// Runs the first text and answers those after it: none, if it is cut short.
+fn run_case<'a>(cases: &'a [u8], work: &mut [u32], frames: &mut [u8], diags: &mut [u8]) -> &'a [u8]
+    requires { 0 < length cases.now }
+    ensures { length result.now < length cases.now }
 {
-    if cases.len() - at < 4 {
-        return cases.len();
-    }
-    let text = at + 4;
-    let end = text + u32_at(cases, at);
-    if cases.len() < end {
-        return cases.len();
-    }
-    let words = words_for(&cases[text..end], work.len());
-    run_text(&cases[text..end], &mut work[..words], frames, diags);
-    end
+    let Some((size, rest)) = cases.split_first_chunk::<4>() else {
+        return &[];
+    };
+    let Some((text, rest)) = rest.split_at_checked(u32::from_le_bytes(*size) as usize) else {
+        return &[];
+    };
+    let words = words_for(text, work.len());
+    run_text(text, &mut work[..words], frames, diags);
+    rest
 }
 
 fn run(cases: &[u8], work: &mut [u32], frames: &mut [u8], diags: &mut [u8]) {
-    let mut at = 0;
-    while at < cases.len() {
-        at = run_case(cases, at, work, frames, diags);
+    let mut left = cases;
+    while !left.is_empty() {
+        left = run_case(left, work, frames, diags);
     }
 }
 
-// Room for the input, for the words of 32,767 tokens, and for a frame of 4,095 variables.
-fn input_buffer() -> [u8; 262144]
-    ensures { 262144 ≡ length result }
+// Room of any length.
+fn buffer<const N: usize>() -> [u8; N]
+    ensures { N ≡ length result }
 {
-    [0; 262144]
-}
-
-fn frame_buffer() -> [u8; 2621440]
-    ensures { 2621440 ≡ length result }
-{
-    [0; 2621440]
+    [0; N]
 }
 
 // The same over a work area of the length that the program lends.
@@ -117,11 +107,12 @@ fn run_over(cases: &[u8], work: &mut [u32; 524288], frames: &mut [u8], diags: &m
     run(cases, work, frames, diags);
 }
 
+// Room for the input, for the words of 32,767 tokens, and for a frame of 4,095 variables.
 fn main() {
-    let mut input = input_buffer();
+    let mut input = buffer::<262144>();
     let n = io::read_full(0, &mut input);
     let mut work = [7u32; 524288];
-    let mut frames = frame_buffer();
+    let mut frames = buffer::<2621440>();
     let mut diags = [0u8; 1];
     run_over(&input[..n], &mut work, &mut frames, &mut diags);
 }

@@ -2,7 +2,7 @@
 // only, then the diagnostics, to standard output, or nothing if the text is refused or longer.
 #![tactic(auto)]
 
-use paper::{Answer, Measured, Setting};
+use paper::Setting;
 
 const MOST_BYTES: usize = 8192;
 // For 1,023 tokens: one more is number 2.
@@ -20,31 +20,24 @@ const DIAGS: usize = 36864;
 
 // Writes both streams of a text into buffers of just their lengths, and then out.
 fn write_both(text: &[u8], work: &mut [u32], frames: &mut [u8], diags: &mut [u8]) {
-    match catalogue::write(text, work, frames, diags, Setting::Short) {
-        Answer::Refused(_, _) => {}
-        Answer::Done(_, _, _) => {
-            io::write_all(1, frames);
-            io::write_all(1, diags);
-        }
+    if catalogue::write(text, work, frames, diags, Setting::Short).is_ok() {
+        io::write_all(1, frames);
+        io::write_all(1, diags);
     }
 }
 
 // Measures a text and lends just as much of the buffers.
 fn run(text: &[u8], work: &mut [u32], frames: &mut [u8], diags: &mut [u8]) {
-    match catalogue::measure(text, work, Setting::Short) {
-        Measured::Refused(_, _) => {}
-        Measured::Needs(f, d, _) => {
-            let f_needed = f as usize;
-            let d_needed = d as usize;
-            if frames.len() < f_needed {
-                return;
-            }
-            if diags.len() < d_needed {
-                return;
-            }
-            write_both(text, work, &mut frames[..f_needed], &mut diags[..d_needed]);
-        }
-    }
+    let Ok(needs) = catalogue::measure(text, work, Setting::Short) else {
+        return;
+    };
+    let Some(f) = frames.get_mut(..needs.frames as usize) else {
+        return;
+    };
+    let Some(d) = diags.get_mut(..needs.diags as usize) else {
+        return;
+    };
+    write_both(text, work, f, d);
 }
 
 // The same over arrays of the lengths that the program lends.

@@ -5,17 +5,20 @@ use mathlib.Core.Bool.{Bool, true, false}
 use mathlib.Core.List.{List, [], ◌∷◌, ◌++◌}
 use Prim.Native.Nat.{ℕ, ◌+◌, ◌-◌, ◌<◌, ◌≤◌}
 use native.Mathlib.Omega.{arith}
-use lib.Dec.{eqb}
+use lib.Dec.{eqb, ltb}
 use lib.ListN.{length, get_or, take, drop, length-take, length-drop}
 use lib.Seq.{get_or-drop, get_or-take}
-use borrow.Author.Tests.{lt-ltb, le-ltb, eq-eqb, ne_eqb}
+use borrow.Author.Tests.{lt-ltb, le-ltb, eq-eqb, ne_eqb, ltb-true, ltb-false}
 use Rattle.paper.specs.Base.{or}
 use Rattle.paper.specs.Lookup.{u16_at, u32_at}
 use Rattle.paper.specs.Layout.{Cut, short, cut, with_parts, then, a_string, a_stub, finished, float_head, float_shape, label_part, names_part, hypotheses_part, back_parts, with_back, with_hyps, with_names, assertion_shape, shape_of, record_shape, is_some, fits}
 use Rattle.paper.proofs.Tests.{split}
-use Rattle.layout.specs.Cuts.{Within, span, Came, assertion_tail, assertion_parts, payload_parts, record_from, fitting}
-use Rattle.layout.specs.declared.cut.Reached.TheVariants.{Upto, Short}
-use Rattle.layout.proofs.Cuts.{span_drop, span_get, span_u32, span_length, span_part}
+use Rattle.std.specs.Prelude.{Some, None}
+use Rattle.std.proofs.lemmas.Option.{none-some, same_Some}
+use Rattle.stream.specs.Framing.{string_stop}
+use Rattle.stream.proofs.Strings.{stops}
+use Rattle.layout.specs.Cuts.{left, assertion_tail, assertion_parts, payload_parts, record_from, fitting}
+use Rattle.layout.proofs.Spans.{Within, span, span_drop, span_get, span_u32, span_length, span_part}
 
 -- ---- all is cut and no byte is left
 abbrev pub done : Cut → Bool
@@ -66,19 +69,20 @@ shape_done k l =
     (λ g. rw (e, d, g) (assertion_done k (label_part l)))
     (λ g. rw (e, d, g))))
 
-none_left : (p : List (List ℕ)) (r : List ℕ) → length r ≡ 0 → done (cut p r) ≡ true
-none_left p [] e = refl
-none_left p (b ∷ r) e = absurd (omega arith)
+-- by what is left
+none_done : (c : Cut) → left c ≡ None → done c ≡ false
+none_done short z = refl
+none_done (cut p r) z = absurd (none-some r (sym z))
 
-some_left : (p : List (List ℕ)) (r : List ℕ) → (length r ≡ 0 → ⊥) → done (cut p r) ≡ false
-some_left p [] n = absurd (n refl)
-some_left p (b ∷ r) n = refl
+some_done : (c : Cut) {r : List ℕ} → left c ≡ Some r → (length r ≡ 0 → ⊥) → done c ≡ false
+some_done short {r} z n = refl
+some_done (cut p []) {r} z n = let e : [] ≡ r = cc in absurd (n (ap length (sym e)))
+some_done (cut p (b ∷ q)) z n = refl
 
-upto_same : {p q : ℕ} → Upto p ≡ Upto q → p ≡ q
-upto_same e = cc
-
-not_short : {q : ℕ} → Upto q ≡ Short → ⊥
-not_short e = let z : ◌≡◌ {A = ℕ} 0 1 = cc in omega arith
+all_done : (c : Cut) {r : List ℕ} → left c ≡ Some r → length r ≡ 0 → done c ≡ true
+all_done short {r} z n = absurd (none-some r z)
+all_done (cut p []) z n = refl
+all_done (cut p (b ∷ q)) {r} z n = let e : (b ∷ q) ≡ r = cc in let k : length (b ∷ q) ≡ 0 = ap length e ∙ n in absurd (omega arith)
 
 -- ---- the record at a place
 module _ (l : List ℕ) (at : ℕ) where
@@ -93,18 +97,18 @@ module _ (l : List ℕ) (at : ℕ) where
       get : (i : ℕ) → i < 4 → get_or (take (4 + u32_at l at) (drop at l)) i 0 ≡ get_or l (at + i) 0
       get i h = get_or-take (4 + u32_at l at) (drop at l) i 0 (omega arith) ∙ get_or-drop at l i 0
 
-  unfit : fits (record_from l at) ≡ false → Short ≡ fitting l at
+  unfit : fits (record_from l at) ≡ false → None ≡ fitting l at
   unfolding fitting
   unfit e = sym (rw e)
 
   -- fewer than six bytes
-  pub fitting_few : length l < at + 6 → Short ≡ fitting l at
+  pub fitting_few : length l < at + 6 → None ≡ fitting l at
   unfolding fits record_shape record_from
   fitting_few h =
       unfit (rw (lt-ltb (length (record_from l at)) 6 (simp (length-take, length-drop) (omega arith))))
 
   -- a length under two
-  pub fitting_small : u32_at l at < 2 → Short ≡ fitting l at
+  pub fitting_small : u32_at l at < 2 → None ≡ fitting l at
   unfolding fits record_shape record_from
   fitting_small h =
       unfit (rw (lt-ltb (length (record_from l at)) 6 (simp (length-take, length-drop) (omega arith))))
@@ -114,7 +118,7 @@ module _ (l : List ℕ) (at : ℕ) where
   unfolding record_from
   cut_off g = simp (length-take, length-drop) (omega arith)
 
-  pub fitting_over : at + 6 ≤ length l → length l < (at + 4) + u32_at l at → Short ≡ fitting l at
+  pub fitting_over : at + 6 ≤ length l → length l < (at + 4) + u32_at l at → None ≡ fitting l at
   unfolding fits record_shape
   fitting_over h g =
       let r = record_from l at in
@@ -148,34 +152,65 @@ module _ (l : List ℕ) (at : ℕ) where
         rw (from_span, le-ltb (length (span l at e)) 6 (omega arith), eq-eqb (length (span l at e)) (4 + u32_at (span l at e) 0) (omega arith), from_kind, span_drop l at e 6)
         (shape_done (u16_at l (at + 4)) (span l (at + 6) e))
 
-    module _ {k n : ℕ} (kind : k ≡ u16_at l (at + 4)) (size : n ≡ u32_at l at) where
-      pub fitting_short : payload_parts k (span l (at + 6) ((at + 4) + n)) ≡ short → Short ≡ fitting l at
-      fitting_short z = unfit (fits_by ∙ rw (← kind, ← size, z))
+-- ---- by where the record stops, as a string does
+module _ (l : List ℕ) (at : ℕ) where
+  pub fitting_off : string_stop l at (length l) ≡ None → None ≡ fitting l at
+  unfolding string_stop
+  fitting_off z =
+      split (ltb (length l) (at + 4))
+      (λ a. fitting_few l at (omega (arith, ltb-true (length l) (at + 4) a)))
+      (λ a.
+      split (ltb (length l) ((at + 4) + u32_at l at))
+      (λ b.
+      split (ltb (u32_at l at) 2)
+      (λ c. fitting_small l at (ltb-true (u32_at l at) 2 c))
+      (λ c.
+      split (ltb (length l) (at + 6))
+      (λ d. fitting_few l at (ltb-true (length l) (at + 6) d))
+      (λ d. fitting_over l at (ltb-false (length l) (at + 6) d) (ltb-true (length l) ((at + 4) + u32_at l at) b))))
+      (λ b. absurd (none-some ((at + 4) + u32_at l at) (sym (rw (a, b) at z)))))
 
-      pub fitting_left : {q : ℕ} → Came l (at + 6) ((at + 4) + n) (payload_parts k (span l (at + 6) ((at + 4) + n))) q → (q ≡ (at + 4) + n → ⊥) → Short ≡ fitting l at
-      fitting_left {q} a z =
-          let w : Within l q ((at + 4) + n) = record { order = a.upto; inside = omega arith } in
-          unfit (fits_by ∙ rw (← kind, ← size, a.is) (some_left a.parts (span l q ((at + 4) + n)) (λ e. z (omega (arith, e, a.upto, span_length w)))))
+  module _ {e : ℕ} (stop : string_stop l at (length l) ≡ Some e) where
+    pub fitting_none : e < at + 6 → None ≡ fitting l at
+    fitting_none h = let s = stops l at (length l) e stop in fitting_small l at (omega (arith, s.is))
 
-      pub fitting_all : {q : ℕ} → Came l (at + 6) ((at + 4) + n) (payload_parts k (span l (at + 6) ((at + 4) + n))) q → q ≡ (at + 4) + n → Upto ((at + 4) + n) ≡ fitting l at
-      unfolding fitting
-      fitting_all {q} a z =
-          let w : Within l q ((at + 4) + n) = record { order = a.upto; inside = omega arith } in
-          let f : fits (record_from l at) ≡ true = fits_by ∙ rw (← kind, ← size, a.is) (none_left a.parts (span l q ((at + 4) + n)) (omega (arith, z, span_length w))) in
-          sym (rw (f, ← size))
+    module _ (h : at + 6 ≤ e) {k : ℕ} (kind : k ≡ u16_at l (at + 4)) where
+      abbrev payload : List ℕ
+      payload = take (e - (at + 6)) (drop (at + 6) l)
+
+      fits_payload : fits (record_from l at) ≡ done (payload_parts k payload)
+      fits_payload =
+          let s = stops l at (length l) e stop in
+          let w : Within l (at + 6) e = record { order = h; inside = s.within } in
+          let p : span l (at + 6) ((at + 4) + u32_at l at) ≡ payload = ap (span l (at + 6)) (sym s.is) ∙ span_part w in
+          fits_by l at (omega (arith, s.is)) (omega (arith, s.is, s.within)) ∙ rw (← kind, p)
+
+      pub fitting_short : left (payload_parts k payload) ≡ None → None ≡ fitting l at
+      fitting_short z = unfit l at (fits_payload ∙ none_done (payload_parts k payload) z)
+
+      module _ {r : List ℕ} (z : left (payload_parts k payload) ≡ Some r) where
+        pub fitting_left : (length r ≡ 0 → ⊥) → None ≡ fitting l at
+        fitting_left n = unfit l at (fits_payload ∙ some_done (payload_parts k payload) z n)
+
+        pub fitting_all : length r ≡ 0 → Some e ≡ fitting l at
+        unfolding fitting
+        fitting_all n =
+            let s = stops l at (length l) e stop in
+            let f : fits (record_from l at) ≡ true = fits_payload ∙ all_done (payload_parts k payload) z n in
+            rw s.is (sym (rw f))
 
 -- ---- what a record that fits is
 pub record Fitting (l : List ℕ) (at q : ℕ) : Type 0 where
   pub after : q ≡ (at + 4) + u32_at l at
   pub fit : fits (record_from l at) ≡ true
 
-pub fitting_stands : (l : List ℕ) (at : ℕ) {q : ℕ} → Upto q ≡ fitting l at → Fitting l at q
+pub fitting_stands : (l : List ℕ) (at : ℕ) {q : ℕ} → Some q ≡ fitting l at → Fitting l at q
 unfolding fitting
 fitting_stands l at {q} e =
     split (fits (record_from l at))
-    (λ t. let z : q ≡ (at + 4) + u32_at l at = upto_same (rw t at e) in record { after = z; fit = t })
-    (λ t. absurd (not_short (rw t at e)))
+    (λ t. let z : q ≡ (at + 4) + u32_at l at = same_Some q ((at + 4) + u32_at l at) (rw t at e) in record { after = z; fit = t })
+    (λ t. absurd (none-some q (sym (rw t at e))))
 
-pub fitting_not : (l : List ℕ) (at : ℕ) → Short ≡ fitting l at → fits (record_from l at) ≡ false
+pub fitting_not : (l : List ℕ) (at : ℕ) → None ≡ fitting l at → fits (record_from l at) ≡ false
 unfolding fitting
-fitting_not l at e = split (fits (record_from l at)) (λ t. absurd (not_short (sym (rw t at e)))) (λ t. t)
+fitting_not l at e = split (fits (record_from l at)) (λ t. absurd (none-some ((at + 4) + u32_at l at) (rw t at e))) (λ t. t)

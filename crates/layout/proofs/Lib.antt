@@ -1,7 +1,7 @@
-pub mod Cuts
+pub mod Left
+pub mod Spans
+pub mod StubString
 pub mod Lowered
-pub mod Hypotheses
-pub mod Tails
 pub mod Fit
 pub mod Streams
 pub mod Local

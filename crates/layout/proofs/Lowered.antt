@@ -7,21 +7,30 @@ use Prim.Native.Nat.{ℕ, zero, suc, ◌+◌, ◌-◌, ◌<◌}
 use native.Mathlib.Nat.{not-suc-le-zero}
 use native.Mathlib.Omega.{arith}
 use lib.Dec.{ltb}
-use lib.ListN.{length, get_or, take, drop, length-drop}
-use lib.Seq.{get_or-drop}
+use lib.ListN.{length, get_or, take, drop, length-drop, length-append}
+use lib.Seq.{get_or-drop, get_or-append-add}
 use borrow.Author.Tests.{ltb-false}
 use Rattle.paper.specs.Lookup.{stub_string}
 use Rattle.paper.specs.Layout.{lowered}
 use Rattle.paper.proofs.Tests.{split, clash}
 use Rattle.layout.specs.Lowers.{Lowers}
 
-pub lowered_last : (l : List ℕ) (k : ℕ) → length l ≡ k + 1 → lowered l ≡ take k l ++ ((get_or l k 0 - 128) ∷ [])
+pub lowered_none : (l : List ℕ) → length l ≡ 0 → lowered l ≡ []
 unfolding lowered
-lowered_last [] k e = absurd (omega arith)
-lowered_last (b ∷ []) zero e = refl
-lowered_last (b ∷ []) (suc k) e = absurd (omega arith)
-lowered_last (b ∷ c ∷ l) zero e = absurd (omega arith)
-lowered_last (b ∷ c ∷ l) (suc k) e = ap (λ r. b ∷ r) (lowered_last (c ∷ l) k (omega arith))
+lowered_none [] e = refl
+lowered_none (b ∷ l) e = absurd (omega arith)
+
+pub lowered_front : (f : List ℕ) (b : ℕ) → lowered (f ++ (b ∷ [])) ≡ f ++ ((b - 128) ∷ [])
+unfolding lowered
+lowered_front [] b = refl
+lowered_front (x ∷ []) b = refl
+lowered_front (x ∷ y ∷ f) b = ap (λ r. x ∷ r) (lowered_front (y ∷ f) b)
+
+-- the last byte, by its place
+pub last_is : (f : List ℕ) (b : ℕ) → get_or (f ++ (b ∷ [])) (length (f ++ (b ∷ [])) - 1) 0 ≡ b
+last_is f b =
+    let e : length (f ++ (b ∷ [])) - 1 ≡ length f + 0 = omega (arith, length-append f (b ∷ [])) in
+    rw e (get_or-append-add f (b ∷ []) 0 0)
 
 pub lowered_length : (l : List ℕ) → length (lowered l) ≡ length l
 unfolding lowered

@@ -15,7 +15,8 @@ use Rattle.paper.specs.Records.{u16}
 use Rattle.paper.specs.Lookup.{u16_at, u32_at}
 use Rattle.paper.specs.Layout.{lowered, shape_of, record_shape, is_some, fits, stream_records}
 use Rattle.paper.specs.Convert.{first_unfit, renewed, renewal, convert, convert_exit}
-use Rattle.paper.specs.declared.Converted.TheVariants.{Renewed, Unfit, NoRoom}
+use Rattle.std.specs.Prelude.{Ok, Err}
+use Rattle.paper.specs.declared.Unconverted.TheVariants.{Unfit, NoRoom}
 use Rattle.paper.proofs.Tests.{split, by_option, eqb_ne}
 use Rattle.paper.proofs.Options.{none_some}
 use Rattle.stream.specs.Wrote.{Wrote}
@@ -24,7 +25,7 @@ use Rattle.stream.proofs.Records.{length_u16}
 use Rattle.layout.specs.Cuts.{record_from, payload_parts}
 use Rattle.layout.specs.Lowers.{Renews}
 use Rattle.layout.specs.Renewal.{unfit_of, unfit, AllFit, Converts}
-use Rattle.layout.specs.declared.convert.Unfitting.TheVariants.{First, Nowhere}
+use Rattle.std.specs.Prelude.{Some, None}
 use Rattle.layout.proofs.Fit.{shape_done}
 use Rattle.layout.proofs.Lowered.{lowered_length}
 use Rattle.layout.proofs.Stubs.{Stubbed, stubbed, stubbed_lowers}
@@ -131,26 +132,26 @@ put_end {s} {at = at} p h =
     wrote_as p.wrote (sym p.rest ∙ ap (λ x. p.acc ++ gather renewed x) (records_end s at h) ∙ append-nil p.acc)
 
 -- ---- what the converter answers
-pub converts_unfit : {s l : List ℕ} {o : ℕ} → First o ≡ unfit s → Converts s l l (Unfit o)
+pub converts_unfit : {s l : List ℕ} {o : ℕ} → Some o ≡ unfit s → Converts s l l (Err (Unfit o))
 unfolding unfit convert convert_exit
 converts_unfit {s} {l} {o} e = by_option (first_unfit (stream_records s) 0)
-    (λ p z. let q : First o ≡ First p = e ∙ ap unfit_of z in let y : o ≡ p = cc in record { answer = rw (z, y); exit = rw z })
-    (λ z. let q : First o ≡ Nowhere = e ∙ ap unfit_of z in let y : ◌≡◌ {A = ℕ} 0 1 = cc in absurd (omega (arith, y)))
+    (λ p z. let q : Some o ≡ Some p = e ∙ ap unfit_of z in let y : o ≡ p = cc in record { answer = rw (z, y); exit = rw z })
+    (λ z. let q : Some o ≡ None = e ∙ ap unfit_of z in let y : ◌≡◌ {A = ℕ} 0 1 = cc in absurd (omega (arith, y)))
 
-pub all_fit : (s : List ℕ) → Nowhere ≡ unfit s → AllFit s
+pub all_fit : (s : List ℕ) → None ≡ unfit s → AllFit s
 unfolding unfit
 all_fit s e = by_option (first_unfit (stream_records s) 0)
-    (λ p z. let q : Nowhere ≡ First p = e ∙ ap unfit_of z in let y : ◌≡◌ {A = ℕ} 0 1 = cc in absurd (omega (arith, y)))
+    (λ p z. let q : None ≡ Some p = e ∙ ap unfit_of z in let y : ◌≡◌ {A = ℕ} 0 1 = cc in absurd (omega (arith, y)))
     (λ z. z)
 
-pub converts_short : (s l : List ℕ) → AllFit s → length l < length s → Converts s l l (NoRoom (length s))
+pub converts_short : (s l : List ℕ) → AllFit s → length l < length s → Converts s l l (Err (NoRoom (length s)))
 unfolding convert convert_exit
 converts_short s l e h =
     let n = renewal_length s e in
     let t = lt-ltb (length l) (length (renewal s)) (omega arith) in
     record { answer = rw (e, t, n); exit = rw (e, t) }
 
-pub converts_all : {s l m : List ℕ} {n : ℕ} → AllFit s → length s ≤ length l → n ≡ length s → Wrote l m 0 n (renewal s) → Converts s l m (Renewed n)
+pub converts_all : {s l m : List ℕ} {n : ℕ} → AllFit s → length s ≤ length l → n ≡ length s → Wrote l m 0 n (renewal s) → Converts s l m (Ok n)
 unfolding convert convert_exit
 converts_all {s} {l} {m} {n} e h z w =
     let k = renewal_length s e in

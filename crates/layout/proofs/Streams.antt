@@ -19,8 +19,7 @@ use Rattle.paper.proofs.Tests.{split, clash}
 use Rattle.stream.proofs.Search.{u32_drop}
 use Rattle.layout.specs.Cuts.{record_from, fitting}
 use Rattle.layout.specs.Renewal.{unfit_of, unfit}
-use Rattle.layout.specs.declared.cut.Reached.TheVariants.{Upto, Short}
-use Rattle.layout.specs.declared.convert.Unfitting.TheVariants.{First, Nowhere}
+use Rattle.std.specs.Prelude.{Some, None}
 use Rattle.layout.proofs.Fit.{fitting_stands, fitting_not, from_u32}
 
 -- ---- the records from a place on
@@ -112,19 +111,19 @@ unfit_step s at h e =
     let q : at + length (record_from s at) ≡ (at + 4) + u32_at s at = omega (arith, (stood s at e).size) in
     rw (records_step s at h, e, q)
 
-pub looked_next : {s : List ℕ} {at q : ℕ} → Looked s at → at < length s → Upto q ≡ fitting s at → Looked s q
+pub looked_next : {s : List ℕ} {at q : ℕ} → Looked s at → at < length s → Some q ≡ fitting s at → Looked s q
 looked_next {s} {at} {q} w h e =
     let f = fitting_stands s at e in
     rw f.after
     (record { within = (stood s at f.fit).within; same = sym (unfit_step s at h f.fit) ∙ w.same })
 
-pub looked_bad : {s : List ℕ} {at : ℕ} → Looked s at → at < length s → Short ≡ fitting s at → First at ≡ unfit s
+pub looked_bad : {s : List ℕ} {at : ℕ} → Looked s at → at < length s → None ≡ fitting s at → Some at ≡ unfit s
 unfolding unfit first_unfit
 looked_bad {s} {at} w h e =
     let z : first_unfit (records_at s at) at ≡ some at = rw (records_step s at h, fitting_not s at e) in
     ap unfit_of (sym z ∙ w.same)
 
-pub looked_end : {s : List ℕ} {at : ℕ} → Looked s at → length s ≤ at → Nowhere ≡ unfit s
+pub looked_end : {s : List ℕ} {at : ℕ} → Looked s at → length s ≤ at → None ≡ unfit s
 unfolding unfit first_unfit
 looked_end {s} {at} w h =
     let z : first_unfit (records_at s at) at ≡ none = rw (records_end s at h) in

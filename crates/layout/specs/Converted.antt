@@ -3,8 +3,7 @@
 use Rattle.std.specs.Prelude.{◌≡◌, List, map, ℕ, length}
 use Rattle.paper.specs.Lookup.{u16_at}
 use Rattle.paper.specs.Layout.{record_shape, stream_records}
-use Rattle.paper.specs.Convert.{renewal}
-use Rattle.paper.specs.declared.Converted as declared
+use Rattle.paper.specs.Convert.{Converted, renewal}
 use Rattle.paper.proofs.Alls.{All}
 use Rattle.layout.specs.Renewal.{AllFit, Converts}
 
@@ -29,7 +28,7 @@ abbrev pub Unchanged : Type 0
 Unchanged = (s : List ℕ) → NoStub s → renewal s ≡ s
 
 pub record Conversion : Type 0 where
-  pub answer : declared.Converted
+  pub answer : Converted
   pub buffer : List ℕ
 
 abbrev pub OneConversion : Type 0

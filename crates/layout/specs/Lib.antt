@@ -1,4 +1,5 @@
 pub mod Cuts
+pub mod Repeats
 pub mod Lowers
 pub mod Renewal
 pub mod Converted

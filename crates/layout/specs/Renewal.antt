@@ -1,18 +1,17 @@
 -- What the converter promises, for all inputs: its answer, and the buffer at exit.
 -- `s` is the stream; `l` is the buffer at entry, `m` at exit.
-use Rattle.std.specs.Prelude.{◌≡◌, List, ℕ, length}
+use Rattle.std.specs.Prelude.{◌≡◌, List, ℕ, length, Some, None}
+use Rattle.std.specs.declared.option.Option as declared
 use Rattle.std.proofs.Math.Option.{Option, none, some}
 use Rattle.paper.specs.Layout.{stream_records}
-use Rattle.paper.specs.Convert.{first_unfit, convert, convert_exit}
-use Rattle.paper.specs.declared.Converted.{Converted}
-use Rattle.layout.specs.declared.convert.Unfitting.{Unfitting}
-use Rattle.layout.specs.declared.convert.Unfitting.TheVariants.{First, Nowhere}
+use Rattle.paper.specs.Convert.{Converted, first_unfit, convert, convert_exit}
 
-abbrev pub unfit_of : Option ℕ → Unfitting
-unfit_of none = Nowhere
-unfit_of (some o) = First o
+-- the definitions' answer as the code gives it
+abbrev pub unfit_of : Option ℕ → declared.Option ℕ
+unfit_of none = None
+unfit_of (some o) = Some o
 
-unfoldable pub unfit : List ℕ → Unfitting
+unfoldable pub unfit : List ℕ → declared.Option ℕ
 unfit s = unfit_of (first_unfit (stream_records s) 0)
 
 abbrev pub AllFit : List ℕ → Type 0

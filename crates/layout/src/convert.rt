@@ -7,31 +7,23 @@ ghost use Rattle.stream.specs.Wrote.{Wrote};
 ghost use Rattle.layout.specs.Lowers.{Lowers, Renews};
 ghost use Rattle.layout.specs.Renewal.{unfit, AllFit, Converts};
 
-use crate::cut::Reached;
 use crate::whole::after_record;
-use paper::Converted;
+use paper::{Converted, Unconverted};
 use stream::walk::{u16_at, u32_at};
 use stream::write;
 
-/// The first record that does not fit its layout.
-#[derive(Clone, Copy)]
-pub enum Unfitting {
-    First(usize),
-    Nowhere,
-}
-
 /// The first record of a stream that does not fit its layout.
-pub fn first_unfit(stream: &[u8]) -> Unfitting
+pub fn first_unfit(stream: &[u8]) -> Option<usize>
     ensures { result ≡ unfit stream.now }
 {
     let mut at = 0;
     while at < stream.len() {
-        let Reached::Upto(next) = after_record(stream, at) else {
-            return Unfitting::First(at);
+        let Some(next) = after_record(stream, at) else {
+            return Some(at);
         };
         at = next;
     }
-    Unfitting::Nowhere
+    None
 }
 
 /// Bytes, the last one with 128 taken off.
@@ -39,9 +31,11 @@ fn put_lowered(out: &mut [u8], at: usize, bytes: &[u8]) -> usize
     requires { (at + length bytes.now < 2 ^ 64) × Lowers bytes.now }
     ensures { (result ≡ at + length bytes.now) × Wrote out.old out.new at result (lowered bytes.now) }
 {
-    let last = bytes.len() - 1;
-    let a = write::put_bytes(out, at, &bytes[..last]);
-    write::put_byte(out, a, bytes[last] - 128)
+    let Some((last, front)) = bytes.split_last() else {
+        return at;
+    };
+    let at = write::put_bytes(out, at, front);
+    write::put_byte(out, at, *last - 128)
 }
 
 /// A record; one of kind 1 as kind 4.
@@ -52,9 +46,9 @@ fn put_renewed(out: &mut [u8], at: usize, bytes: &[u8]) -> usize
     if u16_at(bytes, 4) != 1 {
         return write::put_bytes(out, at, bytes);
     }
-    let a = write::put_bytes(out, at, &bytes[..4]);
-    let b = write::put_u16(out, a, 4);
-    put_lowered(out, b, &bytes[6..])
+    let at = write::put_bytes(out, at, &bytes[..4]);
+    let at = write::put_u16(out, at, 4);
+    put_lowered(out, at, &bytes[6..])
 }
 
 /// All records of a stream that fits, renewed.
@@ -74,14 +68,11 @@ fn put_all(stream: &[u8], out: &mut [u8]) -> usize
 pub fn convert(stream: &[u8], out: &mut [u8]) -> Converted
     ensures { Converts stream.now out.old out.new result }
 {
-    match first_unfit(stream) {
-        Unfitting::First(at) => Converted::Unfit(at as u64),
-        Unfitting::Nowhere => {
-            if out.len() < stream.len() {
-                return Converted::NoRoom(stream.len() as u64);
-            }
-            let used = put_all(stream, out);
-            Converted::Renewed(used as u64)
-        }
+    if let Some(at) = first_unfit(stream) {
+        return Err(Unconverted::Unfit(at as u64));
     }
+    if out.len() < stream.len() {
+        return Err(Unconverted::NoRoom(stream.len() as u64));
+    }
+    Ok(put_all(stream, out) as u64)
 }

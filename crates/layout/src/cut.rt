@@ -1,183 +1,125 @@
-// The parts of a frame record: each function answers the place after one that starts at `from`, or that it does not fit before `end`.
+// The parts of a frame record: each function answers what is left of the bytes after one, or none where it does not fit.
 // `paper`'s `specs/Layout.antt` says what each part is.
-ghost use Rattle.std.specs.Prelude.{◌≡◌, ◌+◌, ◌≤◌};
-ghost use Rattle.paper.specs.Lookup.{u16_at};
-ghost use Rattle.paper.specs.Layout.{part, counted, times, a_string, a_stub, an_expression, hypothesis_tail, a_hypothesis, names_part, hypotheses_part};
-ghost use Rattle.layout.specs.Cuts.{Within, span, Cuts};
+ghost use Rattle.std.specs.Prelude.{◌≡◌, ◌≤◌, option_copied};
+ghost use Rattle.paper.specs.Layout.{part, counted, a_string, a_stub, an_expression, hypothesis_tail, a_hypothesis, names_part, hypotheses_part};
+ghost use Rattle.layout.specs.Cuts.{left};
+ghost use Rattle.layout.specs.Repeats.{Repeats};
 
-use stream::walk::{is_stub, u16_at, u32_at};
+use stream::walk::{is_stub, string_stop, u16_at, u32_at};
 
 /// The bytes of an offset or an end: `address_size` of the definitions.
 pub const ADDRESS: usize = 4;
 
-/// The place after a part, or that there is none.
-#[derive(Clone, Copy)]
-pub enum Reached {
-    Upto(usize),
-    Short,
-}
-
 /// After so many bytes.
-pub fn after_part(bytes: &[u8], from: usize, end: usize, size: usize) -> Reached
-    requires { Within bytes.now from end }
-    ensures { Cuts bytes.now from end (part size (span bytes.now from end)) result }
+pub fn after_part(bytes: &[u8], size: usize) -> Option<&[u8]>
+    ensures { option_copied result ≡ left (part size bytes.now) }
 {
-    if end - from < size {
-        return Reached::Short;
-    }
-    Reached::Upto(from + size)
+    bytes.get(size..)
 }
 
 /// After a count of 32 bits and so many times `size` bytes.
-pub fn after_counted(bytes: &[u8], from: usize, end: usize, size: usize) -> Reached
-    requires { Within bytes.now from end × (size ≤ 10) }
-    ensures { Cuts bytes.now from end (counted size (span bytes.now from end)) result }
+pub fn after_counted(bytes: &[u8], size: usize) -> Option<&[u8]>
+    requires { size ≤ 10 }
+    ensures { option_copied result ≡ left (counted size bytes.now) }
 {
-    if end - from < 4 {
-        return Reached::Short;
+    if bytes.len() < 4 {
+        return None;
     }
-    let count = u32_at(bytes, from);
-    after_part(bytes, from, end, 4 + size * count)
+    after_part(bytes, 4 + size * u32_at(bytes, 0))
+}
+
+/// After a string.
+pub fn after_string(bytes: &[u8]) -> Option<&[u8]>
+    ensures { option_copied result ≡ left (a_string bytes.now) }
+{
+    after_counted(bytes, 1)
 }
 
 /// After a stub string.
-pub fn after_stub(bytes: &[u8], from: usize, end: usize) -> Reached
-    requires { Within bytes.now from end }
-    ensures { Cuts bytes.now from end (a_stub (span bytes.now from end)) result }
+pub fn after_stub(bytes: &[u8]) -> Option<&[u8]>
+    ensures { option_copied result ≡ left (a_stub bytes.now) }
 {
-    if end - from < 4 {
-        return Reached::Short;
+    let stop = string_stop(bytes, 0, bytes.len())?;
+    if !is_stub(&bytes[4..stop]) {
+        return None;
     }
-    let length = u32_at(bytes, from);
-    if end - from - 4 < length {
-        return Reached::Short;
-    }
-    let start = from + 4;
-    let stop = start + length;
-    if is_stub(&bytes[start..stop]) {
-        return Reached::Upto(stop);
-    }
-    Reached::Short
+    after_part(bytes, stop)
 }
 
 /// After an expression: typecode, fragments, rump.
-pub fn after_expression(bytes: &[u8], from: usize, end: usize) -> Reached
-    requires { Within bytes.now from end }
-    ensures { Cuts bytes.now from end (an_expression (span bytes.now from end)) result }
+pub fn after_expression(bytes: &[u8]) -> Option<&[u8]>
+    ensures { option_copied result ≡ left (an_expression bytes.now) }
 {
-    let Reached::Upto(fragments) = after_counted(bytes, from, end, 1) else {
-        return Reached::Short;
-    };
-    let Reached::Upto(rump) = after_counted(bytes, fragments, end, 10) else {
-        return Reached::Short;
-    };
-    after_part(bytes, rump, end, 8)
+    let fragments = after_string(bytes)?;
+    let rump = after_counted(fragments, 10)?;
+    after_part(rump, 8)
 }
 
 /// After the offset, the variable and the typecode of a hypothesis.
-fn after_float(bytes: &[u8], from: usize, end: usize) -> Reached
-    requires { Within bytes.now from end }
-    ensures { Cuts bytes.now from end (hypothesis_tail 1 (span bytes.now from end)) result }
+fn after_float(bytes: &[u8]) -> Option<&[u8]>
+    ensures { option_copied result ≡ left (hypothesis_tail 1 bytes.now) }
 {
-    let Reached::Upto(variable) = after_part(bytes, from, end, ADDRESS) else {
-        return Reached::Short;
-    };
-    let Reached::Upto(typecode) = after_part(bytes, variable, end, 2) else {
-        return Reached::Short;
-    };
-    after_counted(bytes, typecode, end, 1)
+    let variable = after_part(bytes, ADDRESS)?;
+    let typecode = after_part(variable, 2)?;
+    after_string(typecode)
 }
 
 /// After the offset and the expression of a hypothesis.
-fn after_essential(bytes: &[u8], from: usize, end: usize) -> Reached
-    requires { Within bytes.now from end }
-    ensures { Cuts bytes.now from end (hypothesis_tail 2 (span bytes.now from end)) result }
+fn after_essential(bytes: &[u8]) -> Option<&[u8]>
+    ensures { option_copied result ≡ left (hypothesis_tail 2 bytes.now) }
 {
-    let Reached::Upto(expression) = after_part(bytes, from, end, ADDRESS) else {
-        return Reached::Short;
-    };
-    after_expression(bytes, expression, end)
+    let expression = after_part(bytes, ADDRESS)?;
+    after_expression(expression)
 }
 
 /// After what follows the tag of a hypothesis.
-fn after_tag(bytes: &[u8], from: usize, end: usize, tag: usize) -> Reached
-    requires { Within bytes.now from end }
-    ensures { Cuts bytes.now from end (hypothesis_tail tag (span bytes.now from end)) result }
+fn after_tag(bytes: &[u8], tag: usize) -> Option<&[u8]>
+    ensures { option_copied result ≡ left (hypothesis_tail tag bytes.now) }
 {
-    if tag == 1 {
-        return after_float(bytes, from, end);
+    match tag {
+        1 => after_float(bytes),
+        2 => after_essential(bytes),
+        _ => None,
     }
-    if tag == 2 {
-        return after_essential(bytes, from, end);
-    }
-    Reached::Short
 }
 
 /// After a hypothesis.
-pub fn after_hypothesis(bytes: &[u8], from: usize, end: usize) -> Reached
-    requires { Within bytes.now from end }
-    ensures { Cuts bytes.now from end (a_hypothesis (span bytes.now from end)) result }
+pub fn after_hypothesis(bytes: &[u8]) -> Option<&[u8]>
+    ensures { option_copied result ≡ left (a_hypothesis bytes.now) }
 {
-    if end - from < 2 {
-        return Reached::Short;
-    }
-    let tag = u16_at(bytes, from);
-    after_tag(bytes, from + 2, end, tag)
+    let rest = after_part(bytes, 2)?;
+    after_tag(rest, u16_at(bytes, 0))
 }
 
-/// After so many hypotheses.
-fn after_each(bytes: &[u8], from: usize, end: usize, count: usize) -> Reached
-    requires { Within bytes.now from end }
-    ensures { Cuts bytes.now from end (times count a_hypothesis (span bytes.now from end)) result }
+/// After so many parts of one kind, one after the other.
+fn after_times<'a, F: Fn(&'a [u8]) -> Option<&'a [u8]>>(
+    bytes: &'a [u8],
+    count: usize,
+    after: F,
+) -> Option<&'a [u8]>
+    requires { F.IsAlwaysCallable after }
+    ensures { Repeats (F.post after) count bytes.entry result }
 {
-    let mut at = from;
-    let mut left = count;
-    while 0 < left {
-        let Reached::Upto(next) = after_hypothesis(bytes, at, end) else {
-            return Reached::Short;
-        };
-        at = next;
-        left -= 1;
+    let mut rest = bytes;
+    for _ in 0..count {
+        rest = after(rest)?;
     }
-    Reached::Upto(at)
+    Some(rest)
 }
 
 /// After the count of hypotheses and the hypotheses.
-pub fn after_hypotheses(bytes: &[u8], from: usize, end: usize) -> Reached
-    requires { Within bytes.now from end }
-    ensures { Cuts bytes.now from end (hypotheses_part (span bytes.now from end)) result }
+pub fn after_hypotheses(bytes: &[u8]) -> Option<&[u8]>
+    ensures { option_copied result ≡ left (hypotheses_part bytes.now) }
 {
-    if end - from < 4 {
-        return Reached::Short;
-    }
-    let count = u32_at(bytes, from);
-    after_each(bytes, from + 4, end, count)
-}
-
-/// After so many strings.
-pub fn after_strings(bytes: &[u8], from: usize, end: usize, count: usize) -> Reached
-    requires { Within bytes.now from end }
-    ensures { Cuts bytes.now from end (times count a_string (span bytes.now from end)) result }
-{
-    let mut at = from;
-    let mut left = count;
-    while 0 < left {
-        let Reached::Upto(next) = after_counted(bytes, at, end, 1) else {
-            return Reached::Short;
-        };
-        at = next;
-        left -= 1;
-    }
-    Reached::Upto(at)
+    let rest = after_part(bytes, 4)?;
+    after_times(rest, u32_at(bytes, 0), after_hypothesis)
 }
 
 /// After V, M, so many variable strings and the pool.
-pub fn after_names(bytes: &[u8], from: usize, end: usize, count: usize) -> Reached
-    requires { Within bytes.now from end × (from + 4 ≤ end) × (count ≡ u16_at bytes.now from) }
-    ensures { Cuts bytes.now from end (names_part (span bytes.now from end)) result }
+pub fn after_names(bytes: &[u8]) -> Option<&[u8]>
+    ensures { option_copied result ≡ left (names_part bytes.now) }
 {
-    let Reached::Upto(pool) = after_strings(bytes, from + 4, end, count) else {
-        return Reached::Short;
-    };
-    after_counted(bytes, pool, end, 1)
+    let rest = after_part(bytes, 4)?;
+    let pool = after_times(rest, u16_at(bytes, 0), after_string)?;
+    after_string(pool)
 }

@@ -15,16 +15,17 @@ use Rattle.paper.proofs.Tests.{split, same_refl}
 use Rattle.paper.proofs.Names.{index_past}
 use Rattle.area.specs.Cells.{name_cell, bucket_cell, symbol_cell, word, Only, Cleared}
 use Rattle.area.proofs.Laws.{word_same, word_other, only_none, only_set, only_then}
-use Rattle.nameck.specs.Links.{link, way, Linked, Ends, Ended}
+use Rattle.std.specs.Prelude.{Some, None}
+use Rattle.nameck.specs.Links.{piece, link, way, Linked, Ends, Ended}
 use Rattle.nameck.specs.Table.{name_at, names_of, found, with_name, Adds, CanIntern, Interns}
-use Rattle.nameck.proofs.Search.{names_length, names_more, names_same, name_same, found_zero, found_some}
+use Rattle.nameck.proofs.Search.{names_length, names_more, names_same, name_same, found_not, found_some}
 use Rattle.nameck.proofs.Links.{Place, place_of, place_low, place_high, place_name, place_symbol, link_kept, way_same, ends_kept, linked_kept, linked_more}
 
 -- ---- a name that is there
-pub intern_old : {t w : List ℕ} {n m start stop r : ℕ} → CanIntern t w n m start stop → r ≡ found (names_of t w n m) (take (stop - start) (drop start t)) → (r ≡ 0 → ⊥) → Interns t w w n m start stop (r - 1) m
-intern_old {t} {w} {n} {m} {start} {stop} {r} b e d =
+pub intern_old : {t w : List ℕ} {n m start stop r : ℕ} → CanIntern t w n m start stop → found (names_of t w n m) (piece t start stop) ≡ Some r → Interns t w w n m start stop r m
+intern_old {t} {w} {n} {m} {start} {stop} {r} b e =
     let x = take (stop - start) (drop start t) in
-    let f = found_some (names_of t w n m) x r e d in
+    let f = found_some (names_of t w n m) x r e in
     record {
       only = only_none (4 * n) (15 * n) w;
       symbols = λ a c g k z. refl;
@@ -212,11 +213,11 @@ module _ {t w u : List ℕ} {n m start stop : ℕ} (b : CanIntern t w n m start 
       (λ q. rw (old_row a 1 q (omega arith)) (b.spans.within a q))
       (eq-or-lt_of_le k)
 
-  new_interns : found (names_of t w n m) (take (stop - start) (drop start t)) ≡ 0 → Interns t w put n m start stop m (m + 1)
+  new_interns : found (names_of t w n m) (piece t start stop) ≡ None → Interns t w put n m start stop m (m + 1)
   unfolding index
   new_interns e =
       let s = take (stop - start) (drop start t) in
-      let f : member s (names_of t w n m) ≡ false = found_zero (names_of t w n m) s e in
+      let f : member s (names_of t w n m) ≡ false = found_not (names_of t w n m) s e in
       record {
         only = put_only;
         symbols = put_symbols;
@@ -228,5 +229,7 @@ module _ {t w u : List ℕ} {n m start stop : ℕ} (b : CanIntern t w n m start 
         within = λ a k. row_within a (omega arith);
       }
 
-pub intern_new : {t w u v : List ℕ} {n m start stop r c : ℕ} → CanIntern t w n m start stop → r ≡ found (names_of t w n m) (take (stop - start) (drop start t)) → (r ≡ 0 → Ended w n (take (stop - start) (drop start t)) c) → r ≡ 0 → Adds w u n m start stop → v ≡ set u c (m + 1) → Interns t w v n m start stop m (m + 1)
-intern_new b e y z p q = rw q (new_interns b (y z) p (sym e ∙ z))
+pub intern_new : {t w u v : List ℕ} {n m start stop c : ℕ} → CanIntern t w n m start stop
+    → (found (names_of t w n m) (piece t start stop) ≡ None) × Ended w n (piece t start stop) c
+    → Adds w u n m start stop → v ≡ set u c (m + 1) → Interns t w v n m start stop m (m + 1)
+intern_new b e p q = rw q (new_interns b e.1 p e.0)

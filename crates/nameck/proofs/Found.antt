@@ -13,6 +13,7 @@ use Rattle.paper.specs.Variables.{member}
 use Rattle.paper.proofs.Tests.{clash, same_refl, ne_same}
 use Rattle.area.specs.Cells.{word}
 use Rattle.nameck.specs.Links.{hash, head_by, fork, link, way, Linked, Ends, Ended}
+use Rattle.std.specs.Prelude.{Some, None}
 use Rattle.nameck.specs.Table.{name_at, names_of, found}
 use Rattle.nameck.proofs.Search.{none_yet, none_here, found_here, found_none}
 use Rattle.nameck.proofs.Links.{at_bucket, leads, place_of}
@@ -121,12 +122,11 @@ none_of t w n (suc k) s f =
     (none_here t w n s k (none_of t w n k s (λ a l. f a (omega arith))) (ne_same (name_at t w n k) s (f k (omega arith))))
 
 module _ (t : List ℕ) {w : List ℕ} {n m : ℕ} (h : Linked w n m (name_at t w n)) (some : 0 < n) {s : List ℕ} {c r d : ℕ} (k : Walk w n m (name_at t w n) s c r d) where
-  pub walk_found : r ≢ 0 → sameb (name_at t w n (r - 1)) s ≡ true → r ≡ found (names_of t w n m) s
+  pub walk_found : r ≢ 0 → sameb (name_at t w n (r - 1)) s ≡ true → found (names_of t w n m) s ≡ Some (r - 1)
   walk_found z e =
-      let y : (r - 1) + 1 ≡ r = omega (arith, z) in
-      sym y ∙ found_here t w n s m (r - 1) (omega (arith, k.within, z)) (none_of t w n (r - 1) s (none_before h some s k z)) e
+      found_here t w n s m (r - 1) (omega (arith, k.within, z)) (none_of t w n (r - 1) s (none_before h some s k z)) e
 
-  pub walk_none : r ≡ 0 → 0 ≡ found (names_of t w n m) s
+  pub walk_none : r ≡ 0 → found (names_of t w n m) s ≡ None
   walk_none z = found_none t w n s m (none_of t w n m s (nowhere h some s k z))
 
   pub walk_ended : r ≡ 0 → Ended w n s c

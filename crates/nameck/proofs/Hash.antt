@@ -12,7 +12,8 @@ use lib.ListN.{length, get_or, drop, drop_of_length-le, get_or-eq_default}
 use lib.Seq.{drop-cons}
 use Rattle.paper.specs.Bytes.{white}
 use Rattle.token.specs.Words.{word}
-use Rattle.nameck.specs.Links.{hash_on, hash}
+use Rattle.nameck.specs.Links.{hash_more, hash_on, hash}
+use Rattle.nameck.specs.declared.naming.Hashed.{Hashed}
 use Rattle.nameck.specs.Naming.{HashedToken}
 
 -- ---- from a place on
@@ -24,7 +25,7 @@ unfolding hash_from
 hash_whole s = refl
 
 module _ (h : ℕ) (s : List ℕ) (k : ℕ) where
-  pub hash_step : k < length s → hash_from ((h + get_or s k 0) * 2654435769 % 4294967296) s (k + 1) ≡ hash_from h s k
+  pub hash_step : k < length s → hash_from (hash_more h (get_or s k 0)) s (k + 1) ≡ hash_from h s k
   unfolding hash_from hash_on
   hash_step l = rw (add-one, drop-cons s k 0)
 
@@ -36,7 +37,7 @@ module _ (h : ℕ) (s : List ℕ) (k : ℕ) where
 pub hash_small : (h : ℕ) (s : List ℕ) → h < 4294967296 → hash_on h s < 4294967296
 unfolding hash_on
 hash_small h [] k = k
-hash_small h (b ∷ s) k = hash_small ((h + b) * 2654435769 % 4294967296) s (omega arith)
+hash_small h (b ∷ s) k = hash_small (hash_more h b) s (omega arith)
 
 module _ (n h : ℕ) (l : h < 4294967296) where
   product : h * (n / 4 + 1) ≤ 4294967295 * (n / 4 + 1)
@@ -66,24 +67,24 @@ pub record Hashing (q : List ℕ) (at h i : ℕ) : Type 0 where
 pub hashing_begin : (q : List ℕ) (at : ℕ) → Hashing q at 0 at
 hashing_begin q at = record { stop = refl; on = refl; small = omega arith }
 
-module _ {q : List ℕ} {at h i : ℕ} (x : Hashing q at h i) where
-  pub hashing_step : i < length q → white (get_or q i 0) ≡ false → Hashing q at ((h + get_or q i 0) * 2654435769 % 4294967296) (i + 1)
+module _ {q : List ℕ} {at i : ℕ} {r : Hashed} (x : (r.stop ≡ i) × Hashing q at r.hash i) where
+  pub hashing_step : i < length q → white (get_or q i 0) ≡ false → Hashing q at (hash_more r.hash (get_or q i 0)) (i + 1)
   unfolding word hash_on
   hashing_step l e =
-      let s : i + suc (length (word (drop (suc i) q))) ≡ at + length (word (drop at q)) = rw (drop-cons q i 0, e) at x.stop in
-      let o : hash_on ((h + get_or q i 0) * 2654435769 % 4294967296) (word (drop (suc i) q)) ≡ hash (word (drop at q)) = rw (drop-cons q i 0, e) at x.on in
+      let s : i + suc (length (word (drop (suc i) q))) ≡ at + length (word (drop at q)) = rw (drop-cons q i 0, e) at x.1.stop in
+      let o : hash_on (hash_more r.hash (get_or q i 0)) (word (drop (suc i) q)) ≡ hash (word (drop at q)) = rw (drop-cons q i 0, e) at x.1.on in
       record { stop = rw add-one (omega (arith, s)); on = rw add-one o; small = omega arith }
 
-  stopped : word (drop i q) ≡ [] → HashedToken q at (record { stop = i; hash = h })
+  stopped : word (drop i q) ≡ [] → HashedToken q at r
   unfolding hash_on
   stopped e =
-      let s : i + 0 ≡ at + length (word (drop at q)) = rw e at x.stop in
-      record { stop = omega (arith, s); hash = rw e at x.on }
+      let s : i + 0 ≡ at + length (word (drop at q)) = rw e at x.1.stop in
+      record { stop = omega (arith, s, x.0); hash = rw e at x.1.on }
 
-  pub hashing_white : i < length q → white (get_or q i 0) ≡ true → HashedToken q at (record { stop = i; hash = h })
+  pub hashing_white : i < length q → white (get_or q i 0) ≡ true → HashedToken q at r
   unfolding word
   hashing_white l e = stopped (rw (drop-cons q i 0, e))
 
-  pub hashing_end : length q ≤ i → HashedToken q at (record { stop = i; hash = h })
+  pub hashing_end : length q ≤ i → HashedToken q at r
   unfolding word
   hashing_end l = stopped (rw (drop_of_length-le q l))

@@ -1,20 +1,21 @@
 -- An owner or a global declaration noted takes what is done one step on.
 -- Assumes nothing.
-use mathlib.Core.Path.{◌≡◌, refl, ◌∙◌}
+use mathlib.Core.Path.{◌≡◌, ◌∙◌}
 use mathlib.Core.Logic.{◌≢◌}
-use mathlib.Core.Bool.{Bool, true}
+use mathlib.Core.Bool.{Bool, true, false}
 use mathlib.Core.List.{List, [], ◌∷◌, ◌++◌, append-nil}
-use Prim.Native.Nat.{ℕ, zero, suc, ◌+◌, ◌*◌, ◌<◌, ◌≤◌}
+use Prim.Native.Nat.{ℕ, ◌+◌, ◌*◌, ◌<◌, ◌≤◌}
 use native.Mathlib.Omega.{arith}
-use lib.Dec.{eqb}
 use lib.ListN.{length}
-use borrow.Author.Tests.{ne_eqb}
 use Rattle.paper.specs.Base.{choose}
 use Rattle.paper.specs.Tokens.{Token}
 use Rattle.paper.specs.Names.{Declared}
 use Rattle.paper.specs.Variables.{member, sights, index}
 use Rattle.paper.proofs.Names.{index_lt, Distinct, distinct_none, distinct_sights}
 use Rattle.area.specs.Cells.{statement_cell, name_cell, bucket_cell, symbol_cell, math_cell, Only}
+use Rattle.std.specs.Prelude.{Option, Some, None}
+use Rattle.nameck.specs.declared.naming.Sort.{Sort}
+use Rattle.nameck.specs.declared.naming.Sort.TheVariants.{Constant, Variable}
 use Rattle.nameck.specs.Table.{noted, globally}
 use Rattle.nameck.specs.Naming.{Done, declared_as, Column, owner_by, global_by, Progress}
 use Rattle.nameck.proofs.Kept.{shape_kept}
@@ -84,13 +85,9 @@ module _ {t w : List ℕ} {n m : ℕ} {x : Done} (h : Progress t w n x m) {a : �
       (other_column h (index (sights x.names []) b) 1 u row_free (omega arith) 0 (owner_by x.bearers) (omega arith) (λ q. omega (arith, q)) h.owners)
       (column_note b u h.spans.room (omega arith) few_rows distinct k h.globals (global_more x.declared y)))
 
-  pub progress_global : (c o : ℕ) → c ≤ 2 → Progress t (globally c w n a o) n (with_notes x x.bearers (x.declared ++ declared_as c (record { at = o; bytes = b } ∷ []))) m
+  pub progress_global : (c : Option Sort) (o : ℕ)
+      → Progress t (globally c w n a o) n (with_notes x x.bearers (x.declared ++ declared_as c (record { at = o; bytes = b } ∷ []))) m
   unfolding globally
-  progress_global zero o l = rw append-nil h
-  progress_global (suc c) o l =
-      let q : 2 * o + suc c ≡ 2 * o + choose (eqb c 0) 1 2 = word_of c (omega arith) in
-      rw (ne_eqb (suc c) 0 (λ z. omega (arith, z)), q) (global_noted o (eqb c 0))
-    where
-      word_of : (c : ℕ) → c ≤ 1 → 2 * o + suc c ≡ 2 * o + choose (eqb c 0) 1 2
-      word_of zero l = refl
-      word_of (suc c) l = let q : c ≡ 0 = omega arith in rw q
+  progress_global None o = rw append-nil h
+  progress_global (Some Constant) o = global_noted o true
+  progress_global (Some Variable) o = global_noted o false

@@ -1,6 +1,6 @@
 -- Bytes compared, and a name looked for among those in the rows: its place in their list.
 -- Assumes nothing.
-use mathlib.Core.Path.{◌≡◌, refl, sym, ap, ◌∙◌}
+use mathlib.Core.Path.{◌≡◌, refl, ap, ◌∙◌}
 use mathlib.Core.Logic.{⊎_elim}
 use mathlib.Core.Bool.{Bool, true, false}
 use mathlib.Core.List.{List, [], ◌∷◌, ◌++◌}
@@ -17,6 +17,7 @@ use Rattle.paper.proofs.Tests.{split, ne_same}
 use Rattle.paper.proofs.Names.{same_sym, member_left, member_right, member_one, index_in, index_past, index_lt}
 use Rattle.area.specs.Cells.{name_cell, word}
 use Rattle.nameck.specs.Table.{name_at, names_of, found, Spans}
+use Rattle.std.specs.Prelude.{Some, None}
 
 -- ---- bytes compared from a place on
 unfoldable pub same_from : List ℕ → List ℕ → ℕ → Bool
@@ -102,13 +103,13 @@ module _ (t w : List ℕ) (n : ℕ) (x : List ℕ) where
   unfolding found
   found_old l k e = rw (member_left x l k e, index_in x l k e, e)
 
-  found_new : (m : ℕ) → member x (names_of t w n m) ≡ false → sameb (name_at t w n m) x ≡ true → (member x (names_of t w n (m + 1)) ≡ true) × (found (names_of t w n (m + 1)) x ≡ m + 1)
+  found_new : (m : ℕ) → member x (names_of t w n m) ≡ false → sameb (name_at t w n m) x ≡ true → (member x (names_of t w n (m + 1)) ≡ true) × (found (names_of t w n (m + 1)) x ≡ Some m)
   unfolding found index
   found_new m e d =
       let z : member x (names_of t w n m ++ (name_at t w n m ∷ [])) ≡ true =
       member_right x (names_of t w n m) (name_at t w n m ∷ []) e ∙ member_one x (name_at t w n m) ∙ same_sym x (name_at t w n m) ∙ d in
       rw (names_more t w n m)
-      (z, rw (z, index_past x (names_of t w n m) (name_at t w n m ∷ []) e, d) (omega (arith, names_length t w n m)))
+      (z, rw (z, index_past x (names_of t w n m) (name_at t w n m ∷ []) e, d) (ap Some (omega (arith, names_length t w n m))))
 
   -- what is found is found among more
   found_same : (m k : ℕ) → k ≡ m → member x (names_of t w n k) ≡ true → (member x (names_of t w n m) ≡ true) × (found (names_of t w n m) x ≡ found (names_of t w n k) x)
@@ -125,31 +126,28 @@ module _ (t w : List ℕ) (n : ℕ) (x : List ℕ) where
       ))
       (eq-or-lt_of_le h)
 
-  pub found_here : (m k : ℕ) → k < m → member x (names_of t w n k) ≡ false → sameb (name_at t w n k) x ≡ true → k + 1 ≡ found (names_of t w n m) x
+  pub found_here : (m k : ℕ) → k < m → member x (names_of t w n k) ≡ false → sameb (name_at t w n k) x ≡ true → found (names_of t w n m) x ≡ Some k
   found_here m k h e d =
       let r = found_new k e d in
-      sym ((found_more m (k + 1) (omega arith) r.0).1 ∙ r.1)
+      (found_more m (k + 1) (omega arith) r.0).1 ∙ r.1
 
-  pub found_none : (m : ℕ) → member x (names_of t w n m) ≡ false → 0 ≡ found (names_of t w n m) x
+  pub found_none : (m : ℕ) → member x (names_of t w n m) ≡ false → found (names_of t w n m) x ≡ None
   unfolding found
   found_none m e = rw e
 
 -- what the answer of the walk says
 module _ (l : List (List ℕ)) (x : List ℕ) where
-  pub found_zero : found l x ≡ 0 → member x l ≡ false
+  pub found_not : found l x ≡ None → member x l ≡ false
   unfolding found
-  found_zero e = split (member x l) (λ q. let z : index l x + 1 ≡ 0 = rw q at e in absurd (omega arith)) (λ q. q)
+  found_not e = split (member x l) (λ q. let z : Some (index l x) ≡ None = rw q at e in cc) (λ q. q)
 
-  pub found_some : (r : ℕ) → r ≡ found l x → (r ≡ 0 → ⊥) → (member x l ≡ true) × (r - 1 ≡ index l x)
+  pub found_some : (r : ℕ) → found l x ≡ Some r → (member x l ≡ true) × (r ≡ index l x)
   unfolding found
-  found_some r e d =
-      split (member x l) (λ q. let z : r ≡ index l x + 1 = e ∙ rw q in (q, omega arith))
-      (λ q. absurd (d (e ∙ rw q)))
+  found_some r e =
+      split (member x l) (λ q. let z : Some (index l x) ≡ Some r = rw q at e in (q, cc))
+      (λ q. let z : None ≡ Some r = rw q at e in cc)
 
-pub found_few : (t w : List ℕ) (n m : ℕ) (x : List ℕ) (r : ℕ) → r ≡ found (names_of t w n m) x → r ≤ m
-unfolding found
+pub found_few : (t w : List ℕ) (n m : ℕ) (x : List ℕ) (r : ℕ) → found (names_of t w n m) x ≡ Some r → r < m
 found_few t w n m x r e =
-    split (member x (names_of t w n m))
-    (λ q. let z : r ≡ index (names_of t w n m) x + 1 = e ∙ rw q in
-    omega (arith, index_lt x (names_of t w n m) q, names_length t w n m))
-    (λ q. let z : r ≡ 0 = e ∙ rw q in omega arith)
+    let f = found_some (names_of t w n m) x r e in
+    omega (arith, f.1, index_lt x (names_of t w n m) f.0, names_length t w n m)

@@ -5,21 +5,21 @@ use mathlib.Core.Bool.{true, false}
 use mathlib.Core.List.{List, [], ◌∷◌, ◌++◌, append-nil}
 use Prim.Native.Nat.{ℕ, ◌+◌, ◌-◌, ◌*◌, ◌<◌, ◌≤◌}
 use native.Mathlib.Omega.{arith}
-use lib.Dec.{eqb}
 use lib.ListN.{length, get_or, take, drop, set}
 use Rattle.paper.specs.Tokens.{Token}
 use Rattle.paper.specs.Statements.{Kind, $c, $v, $d, $f, $e, $a, $p, labelled}
 use Rattle.paper.specs.Variables.{member, sights}
 use Rattle.paper.specs.Checks.{token}
-use Rattle.paper.proofs.Tests.{split}
 use Rattle.paper.proofs.Names.{see_self, sights_one}
 use Rattle.area.specs.Cells.{statement_cell, symbol_cell, math_cell, word}
 use Rattle.area.proofs.Laws.{word_other}
 use Rattle.token.specs.Words as words
+use Rattle.std.specs.Prelude.{Option, Some, None}
+use Rattle.nameck.specs.declared.naming.Sort.{Sort}
 use Rattle.nameck.specs.Links.{hash}
 use Rattle.nameck.specs.declared.naming.Hashed.{Hashed}
 use Rattle.reader.specs.Rows.{stmt, kind_number, label_of, Stands}
-use Rattle.nameck.specs.Table.{CanIntern, Interns, noted, globally}
+use Rattle.nameck.specs.Table.{CanIntern, Interns, noted, sort_number, globally}
 use Rattle.nameck.specs.Naming.{HashedToken, Done, with_label, with_math, Progress, Ahead, AtToken, SomeToken, TokenNamed, AtLabel, SomeLabel, LabelNamed}
 use Rattle.nameck.proofs.Kept.{math_row}
 use Rattle.nameck.proofs.Part.{Lies, visible_lies}
@@ -122,13 +122,13 @@ module _ {t w : List ℕ} {n s m i j k : ℕ} (pi : i ≡ statement_cell s 0) (p
   label_named y pb po e = record { sim = λ x h. label_step h y pb po e }
 
 -- ---- a math token
-globally_other : (k : ℕ) (w : List ℕ) (n a at i : ℕ) → i < 8 * n → word (globally k w n a at) i ≡ word w i
+globally_other : (k : Option Sort) (w : List ℕ) (n a at i : ℕ) → i < 8 * n → word (globally k w n a at) i ≡ word w i
 unfolding globally
-globally_other k w n a at i h =
-    split (eqb k 0) (λ e. rw e)
-    (λ e. rw e (noted_other w (symbol_cell n a 1) (2 * at + k) i (λ q. omega (arith, q))))
+globally_other None w n a at i h = refl
+globally_other (Some k) w n a at i h =
+    noted_other w (symbol_cell n a 1) (2 * at + sort_number k) i (λ q. omega (arith, q))
 
-module _ {t q w : List ℕ} {n from row k m j : ℕ} (pj : j ≡ math_cell n row) where
+module _ {t q w : List ℕ} {n from row : ℕ} {k : Option Sort} {m j : ℕ} (pj : j ≡ math_cell n row) where
   module _ {x : Done} (s i : ℕ) (h : AtToken t q w n from row k m x s i) where
     token_at : get_or w j 0 ≡ (token (stmt x.of s) i).at
     unfolding word
@@ -176,7 +176,7 @@ module _ {t q w : List ℕ} {n from row k m j : ℕ} (pj : j ≡ math_cell n row
           let o = token (stmt x.of s) i in
           let p = progress_intern h.progress y token_bytes h.ahead in
           let a = progress_math p {s = s} {i = i} {u = atom} h.statement h.inside h.next (atom_final h.progress y token_bytes h.ahead) in
-          let g = progress_global a o.bytes (just_seen x.names o.bytes) (atom_index h.progress y token_bytes h.ahead) k o.at h.kind in
+          let g = progress_global a o.bytes (just_seen x.names o.bytes) (atom_index h.progress y token_bytes h.ahead) k o.at in
           let f : v ≡ globally k (set u (math_cell n x.maths) atom) n atom o.at = e ∙ rw (pb, h.row_is, token_at) in
           rw f g
 

@@ -2,10 +2,9 @@
 -- Assumes nothing.
 use mathlib.Core.Path.{◌≡◌, refl, sym, ap, ◌∙◌}
 use mathlib.Core.List.{List, [], ◌∷◌, ◌++◌, map, append_assoc, append-nil}
-use Prim.Native.Nat.{ℕ, zero, suc, ◌+◌, ◌*◌, ◌<◌, ◌≤◌}
+use Prim.Native.Nat.{ℕ, suc, ◌+◌, ◌*◌, ◌<◌, ◌≤◌}
 use native.Mathlib.Numerals.{add-one}
 use native.Mathlib.Omega.{arith}
-use lib.Dec.{eqb}
 use lib.ListN.{length, get_or, take, drop, length-append, take-append-drop}
 use lib.Seq.{take-suc, drop-cons, take-length, length-take-le}
 use Rattle.paper.specs.Tokens.{Token}
@@ -15,15 +14,17 @@ use Rattle.paper.specs.Checks.{token, no_token}
 use Rattle.paper.proofs.Gather.{map_append}
 use Rattle.area.specs.Cells.{statement_cell, word}
 use Rattle.reader.specs.Rows.{stmt, before}
+use Rattle.std.specs.Prelude.{Option, Some, None}
+use Rattle.nameck.specs.declared.naming.Sort.{Sort}
 use Rattle.nameck.specs.Atoms.{bytes_of}
-use Rattle.nameck.specs.Naming.{Done, declared_as, with_math, Progress, Ahead, AtToken, SomeToken, TokenNamed, AtMath, SomeMath, MathNamed}
+use Rattle.nameck.specs.Naming.{Done, is_constant, declared_as, with_math, Progress, Ahead, AtToken, SomeToken, TokenNamed, AtMath, SomeMath, MathNamed}
 
 -- ---- math tokens after math tokens
-declared_append : (k : ℕ) (l m : List Token) → declared_as k (l ++ m) ≡ declared_as k l ++ declared_as k m
-declared_append zero l m = refl
-declared_append (suc k) l m = map_append (declares (eqb k 0)) l m
+declared_append : (k : Option Sort) (l m : List Token) → declared_as k (l ++ m) ≡ declared_as k l ++ declared_as k m
+declared_append None l m = refl
+declared_append (Some k) l m = map_append (declares (is_constant k)) l m
 
-math_then : (x : Done) (k : ℕ) (l m : List Token) → with_math (with_math x k l) k m ≡ with_math x k (l ++ m)
+math_then : (x : Done) (k : Option Sort) (l m : List Token) → with_math (with_math x k l) k m ≡ with_math x k (l ++ m)
 math_then x k l m =
     let a : (x.maths + length l) + length m ≡ x.maths + length (l ++ m) = omega (arith, length-append l m) in
     let b : (x.names ++ map bytes_of l) ++ map bytes_of m ≡ x.names ++ map bytes_of (l ++ m) =
@@ -32,22 +33,22 @@ math_then x k l m =
     append_assoc x.declared (declared_as k l) (declared_as k m) ∙ ap (λ r. x.declared ++ r) (sym (declared_append k l m)) in
     rw (a, b, c)
 
-math_more : (x : Done) (k : ℕ) (s : Statement) (i : ℕ) → i < length s.math → with_math (with_math x k (take i s.math)) k (token s i ∷ []) ≡ with_math x k (take (i + 1) s.math)
+math_more : (x : Done) (k : Option Sort) (s : Statement) (i : ℕ) → i < length s.math → with_math (with_math x k (take i s.math)) k (token s i ∷ []) ≡ with_math x k (take (i + 1) s.math)
 math_more x k s i h =
     math_then x k (take i s.math) (token s i ∷ [])
     ∙ ap (with_math x k) (sym (ap (λ j. take j s.math) (add-one i) ∙ take-suc s.math i no_token h))
 
-math_none : (x : Done) (k : ℕ) → with_math x k [] ≡ x
+math_none : (x : Done) (k : Option Sort) → with_math x k [] ≡ x
 math_none x k =
     let a : x.maths + 0 ≡ x.maths = omega arith in
     rw (a, append-nil x.names, none_declared k)
   where
-    none_declared : (k : ℕ) → x.declared ++ declared_as k [] ≡ x.declared
-    none_declared zero = append-nil x.declared
-    none_declared (suc k) = append-nil x.declared
+    none_declared : (k : Option Sort) → x.declared ++ declared_as k [] ≡ x.declared
+    none_declared None = append-nil x.declared
+    none_declared (Some k) = append-nil x.declared
 
 -- the names of a part come next if those of the whole do
-ahead_token : (x : Done) (k : ℕ) (s : Statement) (i : ℕ) → i < length s.math → Ahead x (map bytes_of s.math) → Ahead (with_math x k (take i s.math)) ((token s i).bytes ∷ [])
+ahead_token : (x : Done) (k : Option Sort) (s : Statement) (i : ℕ) → i < length s.math → Ahead x (map bytes_of s.math) → Ahead (with_math x k (take i s.math)) ((token s i).bytes ∷ [])
 ahead_token x k s i h a =
     let b = (token s i).bytes in
     let m = s.math in
@@ -63,23 +64,24 @@ ahead_token x k s i h a =
     }
 
 -- ---- the walk over the math tokens: i of them are named
-pub record InvMath (t q w₀ w : List ℕ) (n s k m r i : ℕ) : Type 0 where
+pub record InvMath (t q w₀ w : List ℕ) (n s : ℕ) (k : Option Sort) (m r i : ℕ) : Type 0 where
   pub words : (j : ℕ) → j < 4 * n → word w j ≡ word w₀ j
   pub len : length w ≡ length w₀
   pub sim :
       (x : Done) → AtMath t q w₀ n s k m x
       → (i ≤ length (stmt x.of s).math) × Progress t w n (with_math x k (take i (stmt x.of s).math)) r
 
-pub math_begin : (t q w : List ℕ) (n s k m : ℕ) → InvMath t q w w n s k m m 0
-math_begin t q w n s k m =
-    record {
+pub math_begin : (t q w : List ℕ) (n s : ℕ) (k : Option Sort) (m : ℕ) {i : ℕ} → i ≡ 0 → InvMath t q w w n s k m m i
+math_begin t q w n s k m e =
+    rw e
+    (record {
       words = λ j h. refl;
       len = refl;
       sim = λ x h. (omega arith, rw (math_none x k) h.progress);
-    }
+    })
 
-module _ {t q w₀ w : List ℕ} {n s k m r : ℕ} (i : ℕ) (v : InvMath t q w₀ w n s k m r i) {from first : ℕ} (pf : from ≡ word w₀ (statement_cell s 3)) (p1 : first ≡ word w₀ (statement_cell s 5)) (h : i < word w₀ (statement_cell s 6)) where
-  at_token : (x : Done) → AtMath t q w₀ n s k m x → AtToken t q w n from (first + i) k r (with_math x k (take i (stmt x.of s).math)) s i
+module _ {t q w₀ w : List ℕ} {n s : ℕ} {k : Option Sort} {m r : ℕ} (i : ℕ) (v : InvMath t q w₀ w n s k m r i) {from first : ℕ} (pf : from ≡ word w₀ (statement_cell s 3)) (p1 : first ≡ word w₀ (statement_cell s 5)) (h : i < word w₀ (statement_cell s 6)) {row : ℕ} (pr : row ≡ first + i) where
+  at_token : (x : Done) → AtMath t q w₀ n s k m x → AtToken t q w n from row k r (with_math x k (take i (stmt x.of s).math)) s i
   at_token x a =
       let z = a.progress.shape in
       let f : word w (statement_cell s 3) ≡ word w₀ (statement_cell s 3) = v.words (statement_cell s 3) (omega (arith, a.statement, z.few)) in
@@ -92,14 +94,13 @@ module _ {t q w₀ w : List ℕ} {n s k m r : ℕ} (i : ℕ) (v : InvMath t q w�
         statement = a.statement;
         inside = d;
         next = o;
-        row_is = omega (arith, o, p1, z.first s a.statement);
+        row_is = omega (arith, o, p1, pr, z.first s a.statement);
         from_is = pf ∙ sym f;
         part = rw (g, pf) a.part;
         ahead = ahead_token x k (stmt x.of s) i d a.ahead;
-        kind = a.kind;
       }
 
-  pub some_at : SomeMath t q w₀ n s k m → SomeToken t q w n from (first + i) k r
+  pub some_at : SomeMath t q w₀ n s k m → SomeToken t q w n from row k r
   some_at a =
       record {
         done = with_math a.done k (take i (stmt a.done.of s).math);
@@ -108,9 +109,10 @@ module _ {t q w₀ w : List ℕ} {n s k m r : ℕ} (i : ℕ) (v : InvMath t q w�
         holds = at_token a.done a.holds;
       }
 
-  pub math_step : {u : List ℕ} {e : ℕ} → TokenNamed t q w u n from (first + i) k r e → length u ≡ length w → InvMath t q w₀ u n s k m e (i + 1)
-  math_step {u} {e} y c =
-      record {
+  pub math_step : {u : List ℕ} {e j : ℕ} → j ≡ i + 1 → TokenNamed t q w u n from row k r e → length u ≡ length w → InvMath t q w₀ u n s k m e j
+  math_step {u} {e} p y c =
+      rw p
+      (record {
         words = λ j g. y.words j g ∙ v.words j g;
         len = c ∙ v.len;
         sim = λ x a.
@@ -119,9 +121,9 @@ module _ {t q w₀ w : List ℕ} {n s k m r : ℕ} (i : ℕ) (v : InvMath t q w�
               rw (sym (math_more x k (stmt x.of s) i d))
                   (y.sim (with_math x k (take i (stmt x.of s).math)) s i (at_token x a)),
             );
-      }
+      })
 
-pub math_end : {t q w₀ w : List ℕ} {n s k m r i : ℕ} → InvMath t q w₀ w n s k m r i → word w₀ (statement_cell s 6) ≤ i → MathNamed t q w₀ w n s k m r
+pub math_end : {t q w₀ w : List ℕ} {n s : ℕ} {k : Option Sort} {m r i : ℕ} → InvMath t q w₀ w n s k m r i → word w₀ (statement_cell s 6) ≤ i → MathNamed t q w₀ w n s k m r
 math_end {t} {q} {w₀} {w} {n} {s} {k} {m} {r} {i} v h = record { sim = λ x a. named x a }
   where
     named : (x : Done) → AtMath t q w₀ n s k m x → Progress t w n (with_math x k (stmt x.of s).math) r

@@ -6,11 +6,11 @@ use mathlib.Core.List.{List, [], ◌∷◌, ◌++◌, map, append_assoc}
 use Prim.Native.Nat.{ℕ, zero, suc, ◌+◌, ◌-◌, ◌<◌, ◌≤◌}
 use native.Mathlib.Nat.{not-suc-le-zero}
 use native.Mathlib.Omega.{arith}
-use lib.Dec.{eqb, leb, ltb}
+use lib.Dec.{eqb, ltb}
 use lib.ListN.{length, get_or, take, drop, length-append, get_or-append}
 use lib.Seq.{take-length, get_or-append-add}
-use borrow.Author.Tests.{ltb-true, ltb-false, leb-true}
-use Rattle.paper.specs.Base.{choose, and, find, gather}
+use borrow.Author.Tests.{ltb-true, ltb-false}
+use Rattle.paper.specs.Base.{choose, find, gather}
 use Rattle.paper.specs.Tokens.{Token, tokens}
 use Rattle.paper.specs.Statements.{Kind, $c, $v, $d, $f, $e, $a, $p, Statement, none_end, outermost}
 use Rattle.paper.specs.Names.{bearer, labels, owner, declared_by, declarations, declared, global}
@@ -24,14 +24,16 @@ use Rattle.reader.specs.Rows.{no_statement, stmt, before, kind_number}
 use Rattle.nameck.specs.Atoms.{bytes_of, names_in, atoms, name_of}
 use Rattle.nameck.specs.Named.{owner_word, global_word, Named, Fresh}
 use Rattle.nameck.specs.Table.{name_at, names_of}
-use Rattle.nameck.specs.Naming.{before_statement, with_label, declared_as, with_math, Column, owner_by, global_by, Progress, Ahead, AtMath, SomeMath, MathNamed, AtLabel, SomeLabel, LabelNamed, declaring, SomeStatement, StatementNamed, Readable, SomeRead, AllNamed}
+use Rattle.nameck.specs.Naming.{before_statement, with_label, declared_as, with_math, Column, owner_by, global_by, Progress, Ahead, AtMath, SomeMath, MathNamed, AtLabel, SomeLabel, LabelNamed, sort_of, declaring, SomeStatement, StatementNamed, Readable, SomeRead, AllNamed}
+use Rattle.std.specs.Prelude.{Option, None}
+use Rattle.nameck.specs.declared.naming.Sort.{Sort}
 use Rattle.nameck.proofs.Atoms.{atoms_few}
 use Rattle.nameck.proofs.Search.{names_length}
 use Rattle.nameck.proofs.Links.{none_linked}
 use Rattle.nameck.proofs.Progress.{progress_count}
 
 -- ---- the kind that declares
-declaring_by : (k : Kind) (b : Bool) (m : List Token) → declared_as (choose (and (leb (kind_number k) 2) b) (kind_number k) 0) m ≡ choose b (declared_by k m) []
+declaring_by : (k : Kind) (b : Bool) (m : List Token) → declared_as (choose b (sort_of (kind_number k)) None) m ≡ choose b (declared_by k m) []
 declaring_by $c true m = refl
 declaring_by $c false m = refl
 declaring_by $v true m = refl
@@ -50,12 +52,6 @@ declaring_by $p false m = refl
 declares_all : (s : Statement) → declared_as (declaring (kind_number s.kind) s.end) s.math ≡ declarations s
 unfolding declaring outermost
 declares_all s = declaring_by s.kind (eqb s.end none_end) s.math
-
-declaring_small : (k e : ℕ) → declaring k e ≤ 2
-unfolding declaring
-declaring_small k e =
-    split (leb k 2) (λ p. split (eqb e none_end) (λ q. rw (p, q) (leb-true k 2 p)) (λ q. rw (p, q) (omega arith)))
-    (λ p. rw p (omega arith))
 
 -- ---- one statement after those before it
 module _ (l : List Statement) (s : ℕ) (h : s < length l) where
@@ -81,7 +77,7 @@ module _ (l : List Statement) (s : ℕ) (h : s < length l) where
   unfolding stmt
   names_all = gather_parts names_in l no_statement s h
 
-  statement_done : (k : ℕ) → k ≡ declaring (kind_number (stmt l s).kind) (stmt l s).end → with_math (with_label (before_statement l s) (stmt l s)) k (stmt l s).math ≡ before_statement l (s + 1)
+  statement_done : (k : Option Sort) → k ≡ declaring (kind_number (stmt l s).kind) (stmt l s).end → with_math (with_label (before_statement l s) (stmt l s)) k (stmt l s).math ≡ before_statement l (s + 1)
   statement_done k e =
       let x = stmt l s in
       let a : before l s + length x.math ≡ before l (s + 1) = sym before_more in
@@ -117,8 +113,8 @@ module _ (l : List Statement) (s : ℕ) (h : s < length l) where
   at_label : {t w : List ℕ} {n m : ℕ} → Progress t w n (before_statement l s) m → AtLabel t w n s m (before_statement l s)
   at_label p = record { progress = p; statement = h; next = refl; ahead = ahead_label }
 
-  at_math : {t q w : List ℕ} {n m k : ℕ} → Progress t w n (with_label (before_statement l s) (stmt l s)) m → q ≡ take (word w (statement_cell s 4) - word w (statement_cell s 3)) (drop (word w (statement_cell s 3)) t) → k ≤ 2 → AtMath t q w n s k m (with_label (before_statement l s) (stmt l s))
-  at_math p e k = record { progress = p; statement = h; next = refl; part = e; ahead = ahead_math; kind = k }
+  at_math : {t q w : List ℕ} {n m : ℕ} {k : Option Sort} → Progress t w n (with_label (before_statement l s) (stmt l s)) m → q ≡ take (word w (statement_cell s 4) - word w (statement_cell s 3)) (drop (word w (statement_cell s 3)) t) → AtMath t q w n s k m (with_label (before_statement l s) (stmt l s))
+  at_math p e = record { progress = p; statement = h; next = refl; part = e; ahead = ahead_math }
 
 -- ---- the label and then the math tokens
 pub statement_label : {t w : List ℕ} {n s m : ℕ} → SomeStatement t w n s m → SomeLabel t w n s m
@@ -137,17 +133,17 @@ module _ {t w u : List ℕ} {n s m r : ℕ} (y : LabelNamed t w u n s m r) where
   unfolding word
   statement_within pf a = rw pf ((labelled_so a.of a.here a.progress).shape.within s a.here)
 
-  pub statement_math : {q : List ℕ} {i j k e f : ℕ} → i ≡ statement_cell s 0 → j ≡ statement_cell s 7 → k ≡ declaring (get_or u i 0) (get_or u j 0) → e ≡ statement_cell s 3 → f ≡ statement_cell s 4 → q ≡ take (get_or u f 0 - get_or u e 0) (drop (get_or u e 0) t) → SomeStatement t w n s m → SomeMath t q u n s k r
+  pub statement_math : {q : List ℕ} {i j e f : ℕ} {k : Option Sort} → i ≡ statement_cell s 0 → j ≡ statement_cell s 7 → k ≡ declaring (get_or u i 0) (get_or u j 0) → e ≡ statement_cell s 3 → f ≡ statement_cell s 4 → q ≡ take (get_or u f 0 - get_or u e 0) (drop (get_or u e 0) t) → SomeStatement t w n s m → SomeMath t q u n s k r
   unfolding word
-  statement_math {q} {i} {j} {k} {e} {f} pi pj pk pe pf pq a =
+  statement_math {q} {i} {j} {e} {f} {k} pi pj pk pe pf pq a =
       record {
         done = with_label (before_statement a.of s) (stmt a.of s);
-        holds = at_math a.of s a.here (labelled_so a.of a.here a.progress) (pq ∙ rw (pe, pf)) (rw pk (declaring_small (get_or u i 0) (get_or u j 0)));
+        holds = at_math a.of s a.here (labelled_so a.of a.here a.progress) (pq ∙ rw (pe, pf));
       }
 
-  pub statement_named : {q v : List ℕ} {i j k e f c : ℕ} → i ≡ statement_cell s 0 → j ≡ statement_cell s 7 → k ≡ declaring (get_or u i 0) (get_or u j 0) → e ≡ statement_cell s 3 → f ≡ statement_cell s 4 → q ≡ take (get_or u f 0 - get_or u e 0) (drop (get_or u e 0) t) → MathNamed t q u v n s k r c → StatementNamed t w v n s m c
+  pub statement_named : {q v : List ℕ} {i j e f c : ℕ} {k : Option Sort} → i ≡ statement_cell s 0 → j ≡ statement_cell s 7 → k ≡ declaring (get_or u i 0) (get_or u j 0) → e ≡ statement_cell s 3 → f ≡ statement_cell s 4 → q ≡ take (get_or u f 0 - get_or u e 0) (drop (get_or u e 0) t) → MathNamed t q u v n s k r c → StatementNamed t w v n s m c
   unfolding word
-  statement_named {q} {v} {i} {j} {k} {e} {f} {c} pi pj pk pe pf pq z = record { sim = λ l h p. whole l h p }
+  statement_named {q} {v} {i} {j} {e} {f} {c} {k} pi pj pk pe pf pq z = record { sim = λ l h p. whole l h p }
     where
       whole : (l : List Statement) → s < length l → Progress t w n (before_statement l s) m → Progress t v n (before_statement l (s + 1)) c
       whole l h p =
@@ -155,7 +151,7 @@ module _ {t w u : List ℕ} {n s m r : ℕ} (y : LabelNamed t w u n s m r) where
           let d : k ≡ declaring (kind_number (stmt l s).kind) (stmt l s).end =
           pk ∙ rw (pi, pj, x.shape.kind s h, x.shape.end s h) in
           rw (← (statement_done l s h k d))
-          (z.sim (with_label (before_statement l s) (stmt l s)) (at_math l s h x (pq ∙ rw (pe, pf)) (rw pk (declaring_small (get_or u i 0) (get_or u j 0)))))
+          (z.sim (with_label (before_statement l s) (stmt l s)) (at_math l s h x (pq ∙ rw (pe, pf))))
 
 -- ---- at the start nothing is named
 module _ {t w : List ℕ} {n rows : ℕ} {l : List Statement} (h : Readable t w n rows l) where

@@ -1,13 +1,20 @@
 -- The links of the names in the rows: a head for each bucket, and two links of each name.
 -- The search for a name starts at the head of its bucket, and at each name follows one of its links, by a bit of what it looks for.
-use Rattle.std.specs.Prelude.{◌≡◌, ◌≢◌, Bool, List, [], ◌∷◌, ℕ, zero, suc, ◌+◌, ◌-◌, ◌*◌, ◌/◌, ◌%◌, ◌^◌, ◌<◌, ◌≤◌, eqb, ltb, get_or}
+use Rattle.std.specs.Prelude.{◌≡◌, ◌≢◌, Bool, List, [], ◌∷◌, ℕ, zero, suc, ◌+◌, ◌-◌, ◌*◌, ◌/◌, ◌%◌, ◌^◌, ◌<◌, ◌≤◌, eqb, ltb, get_or, take, drop}
 use Rattle.paper.specs.Base.{choose}
 use Rattle.area.specs.Cells.{name_cell, bucket_cell, symbol_cell, word}
 
--- a number below 2^32 made from bytes
+-- the bytes of a text from one place to another
+abbrev pub piece : List ℕ → ℕ → ℕ → List ℕ
+piece t start stop = take (stop - start) (drop start t)
+
+-- a number below 2^32 made from bytes, byte by byte
+abbrev pub hash_more : ℕ → ℕ → ℕ
+hash_more h b = (h + b) * 2654435769 % 4294967296
+
 unfoldable pub hash_on : ℕ → List ℕ → ℕ
 hash_on h [] = h
-hash_on h (b ∷ s) = hash_on ((h + b) * 2654435769 % 4294967296) s
+hash_on h (b ∷ s) = hash_on (hash_more h b) s
 
 abbrev pub hash : List ℕ → ℕ
 hash s = hash_on 0 s

@@ -1,7 +1,8 @@
 -- How far naming has come: which labels and math tokens are atoms, and which owners and declarations are noted.
 -- `t` is the text, `w` the words, `n` is N + 1.
-use Rattle.std.specs.Prelude.{◌≡◌, true, false, List, [], ◌∷◌, ◌++◌, map, ℕ, zero, suc, ◌+◌, ◌-◌, ◌*◌, ◌<◌, ◌≤◌, eqb, leb, length, get_or, take, drop}
-use Rattle.paper.specs.Base.{choose, and, find, gather}
+use Rattle.std.specs.Prelude.{◌≡◌, true, false, List, [], ◌∷◌, ◌++◌, map, ℕ, ◌+◌, ◌-◌, ◌*◌, ◌<◌, ◌≤◌, eqb, length, get_or, take, drop, Bool, Some, None}
+use Rattle.std.specs.Prelude as code
+use Rattle.paper.specs.Base.{choose, find, gather}
 use Rattle.paper.specs.Tokens.{Token}
 use Rattle.paper.specs.Statements.{labelled, Statement, none_end}
 use Rattle.paper.specs.Names.{named, bearer, labels, Declared, declares, declared, declares_name}
@@ -15,6 +16,8 @@ use Rattle.nameck.specs.Named.{owner_word, global_word, Named, Fresh}
 use Rattle.nameck.specs.Links.{hash, Linked}
 use Rattle.token.specs.Words as words
 use Rattle.nameck.specs.declared.naming.Hashed.{Hashed}
+use Rattle.nameck.specs.declared.naming.Sort.{Sort}
+use Rattle.nameck.specs.declared.naming.Sort.TheVariants.{Constant, Variable}
 use Rattle.nameck.specs.Table.{name_at, names_of, Spans}
 
 -- ---- what is done: of the statements, k labels and p math tokens; by that the names, bearers and declarations
@@ -50,13 +53,17 @@ with_label x s =
       declared = x.declared;
     }
 
--- what math tokens declare, by the kind of an outermost `$c` (1) or `$v` (2), or 0
-abbrev pub declared_as : ℕ → List Token → List Declared
-declared_as zero m = []
-declared_as (suc k) m = map (declares (eqb k 0)) m
+-- what math tokens declare, if their statement is an outermost `$c` or `$v`
+abbrev pub is_constant : Sort → Bool
+is_constant Constant = true
+is_constant Variable = false
+
+abbrev pub declared_as : code.Option Sort → List Token → List Declared
+declared_as None m = []
+declared_as (Some k) m = map (declares (is_constant k)) m
 
 -- then some math tokens
-abbrev pub with_math : Done → ℕ → List Token → Done
+abbrev pub with_math : Done → code.Option Sort → List Token → Done
 with_math x k m =
     record {
       of = x.of;
@@ -131,7 +138,7 @@ pub record HashedToken (q : List ℕ) (i : ℕ) (r : Hashed) : Type 0 where
 
 -- ---- what the steps ask and promise: each for all that may be done so far
 -- the math token in a row of the math column; q is the math string of its statement, which starts at `from`
-pub record AtToken (t q w : List ℕ) (n from row k m : ℕ) (x : Done) (s i : ℕ) : Type 0 where
+pub record AtToken (t q w : List ℕ) (n from row : ℕ) (k : code.Option Sort) (m : ℕ) (x : Done) (s i : ℕ) : Type 0 where
   pub progress : Progress t w n x m
   pub statement : s < length x.of
   pub inside : i < length (stmt x.of s).math
@@ -140,15 +147,14 @@ pub record AtToken (t q w : List ℕ) (n from row k m : ℕ) (x : Done) (s i : �
   pub from_is : from ≡ word w (statement_cell s 3)
   pub part : q ≡ take (word w (statement_cell s 4) - from) (drop from t)
   pub ahead : Ahead x ((token (stmt x.of s) i).bytes ∷ [])
-  pub kind : k ≤ 2
 
-pub record SomeToken (t q w : List ℕ) (n from row k m : ℕ) : Type 0 where
+pub record SomeToken (t q w : List ℕ) (n from row : ℕ) (k : code.Option Sort) (m : ℕ) : Type 0 where
   pub done : Done
   pub s : ℕ
   pub i : ℕ
   pub holds : AtToken t q w n from row k m done s i
 
-pub record TokenNamed (t q w v : List ℕ) (n from row k m r : ℕ) : Type 0 where
+pub record TokenNamed (t q w v : List ℕ) (n from row : ℕ) (k : code.Option Sort) (m r : ℕ) : Type 0 where
   -- the words of the statements are kept
   pub words : (j : ℕ) → j < 4 * n → word v j ≡ word w j
   pub sim :
@@ -156,19 +162,18 @@ pub record TokenNamed (t q w v : List ℕ) (n from row k m r : ℕ) : Type 0 whe
       → Progress t v n (with_math x k (token (stmt x.of s) i ∷ [])) r
 
 -- all math tokens of a statement
-pub record AtMath (t q w : List ℕ) (n s k m : ℕ) (x : Done) : Type 0 where
+pub record AtMath (t q w : List ℕ) (n s : ℕ) (k : code.Option Sort) (m : ℕ) (x : Done) : Type 0 where
   pub progress : Progress t w n x m
   pub statement : s < length x.of
   pub next : x.maths ≡ before x.of s
   pub part : q ≡ take (word w (statement_cell s 4) - word w (statement_cell s 3)) (drop (word w (statement_cell s 3)) t)
   pub ahead : Ahead x (map bytes_of (stmt x.of s).math)
-  pub kind : k ≤ 2
 
-pub record SomeMath (t q w : List ℕ) (n s k m : ℕ) : Type 0 where
+pub record SomeMath (t q w : List ℕ) (n s : ℕ) (k : code.Option Sort) (m : ℕ) : Type 0 where
   pub done : Done
   pub holds : AtMath t q w n s k m done
 
-pub record MathNamed (t q w v : List ℕ) (n s k m r : ℕ) : Type 0 where
+pub record MathNamed (t q w v : List ℕ) (n s : ℕ) (k : code.Option Sort) (m r : ℕ) : Type 0 where
   pub sim : (x : Done) → AtMath t q w n s k m x → Progress t v n (with_math x k (stmt x.of s).math) r
 
 -- the label of a statement
@@ -185,9 +190,12 @@ pub record SomeLabel (t w : List ℕ) (n s m : ℕ) : Type 0 where
 pub record LabelNamed (t w v : List ℕ) (n s m r : ℕ) : Type 0 where
   pub sim : (x : Done) → AtLabel t w n s m x → Progress t v n (with_label x (stmt x.of s)) r
 
--- the kind that declares: 1 or 2 for an outermost `$c` or `$v`, else 0
-unfoldable pub declaring : ℕ → ℕ → ℕ
-declaring k e = choose (and (leb k 2) (eqb e none_end)) k 0
+-- what a statement declares, by its kind and its end: an outermost `$c` or `$v` does
+abbrev pub sort_of : ℕ → code.Option Sort
+sort_of k = choose (eqb k 1) (Some Constant) (choose (eqb k 2) (Some Variable) None)
+
+unfoldable pub declaring : ℕ → ℕ → code.Option Sort
+declaring k e = choose (eqb e none_end) (sort_of k) None
 
 -- a whole statement
 pub record SomeStatement (t w : List ℕ) (n s m : ℕ) : Type 0 where

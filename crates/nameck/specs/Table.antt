@@ -1,10 +1,12 @@
 -- The names in the rows of the work area, and what one step of naming does with them.
 -- `t` is the text, `w` the words, `n` is N + 1.
-use Rattle.std.specs.Prelude.{◌≡◌, ◌≢◌, List, [], ◌∷◌, ◌++◌, ℕ, zero, suc, ◌+◌, ◌-◌, ◌*◌, ◌<◌, ◌≤◌, eqb, length, take, drop, set}
+use Rattle.std.specs.Prelude.{◌≡◌, ◌≢◌, List, [], ◌∷◌, ◌++◌, ℕ, zero, suc, ◌+◌, ◌-◌, ◌*◌, ◌<◌, ◌≤◌, eqb, length, take, drop, set, Option, Some, None, Result, MatchResult}
 use Rattle.paper.specs.Base.{choose}
 use Rattle.paper.specs.Variables.{member, see, index}
 use Rattle.area.specs.Cells.{name_cell, symbol_cell, word, Only, Cleared}
-use Rattle.nameck.specs.Links.{Linked}
+use Rattle.nameck.specs.declared.naming.Sort.{Sort}
+use Rattle.nameck.specs.declared.naming.Sort.TheVariants.{Constant, Variable}
+use Rattle.nameck.specs.Links.{Linked, Ended}
 
 -- the name in the a-th row, and the first m names
 unfoldable pub name_at : List ℕ → List ℕ → ℕ → ℕ → List ℕ
@@ -14,9 +16,9 @@ unfoldable pub names_of : List ℕ → List ℕ → ℕ → ℕ → List (List �
 names_of t w n zero = []
 names_of t w n (suc m) = names_of t w n m ++ (name_at t w n m ∷ [])
 
--- the place of a name among others, plus 1; 0 if it is not there
-unfoldable pub found : List (List ℕ) → List ℕ → ℕ
-found l x = choose (member x l) (index l x + 1) 0
+-- the place of a name among others, if it is there
+unfoldable pub found : List (List ℕ) → List ℕ → Option ℕ
+found l x = choose (member x l) (Some (index l x)) None
 
 -- the first m rows lie in the work area and hold parts of the text
 pub record Spans (t w : List ℕ) (n m : ℕ) : Type 0 where
@@ -26,6 +28,12 @@ pub record Spans (t w : List ℕ) (n m : ℕ) : Type 0 where
   pub rows : m ≤ n
   pub start_stop : (a : ℕ) → a < m → word w (name_cell n a 0) ≤ word w (name_cell n a 1)
   pub within : (a : ℕ) → a < m → word w (name_cell n a 1) ≤ length t
+
+-- the answer of a search for a name among the first m: its row, or else the cell of the empty link where the search ends
+abbrev pub Finds : List ℕ → List ℕ → ℕ → ℕ → List ℕ → Result ℕ ℕ → Type 0
+Finds t w n m x r =
+    MatchResult r (λ row. found (names_of t w n m) x ≡ Some row)
+    (λ cell. (found (names_of t w n m) x ≡ None) × Ended w n x cell)
 
 -- a row for a new name, from which no link leads
 unfoldable pub with_name : List ℕ → ℕ → ℕ → ℕ → ℕ → List ℕ
@@ -58,6 +66,11 @@ pub record Interns (t w v : List ℕ) (n m start stop atom k : ℕ) : Type 0 whe
 unfoldable pub noted : List ℕ → ℕ → ℕ → List ℕ
 noted w i x = choose (eqb (word w i) 0) (set w i x) w
 
--- a global declaration of the atom a, by a token at this offset; kind 0 declares nothing
-unfoldable pub globally : ℕ → List ℕ → ℕ → ℕ → ℕ → List ℕ
-globally k w n a at = choose (eqb k 0) w (noted w (symbol_cell n a 1) (2 * at + k))
+-- a global declaration of the atom a, by a token at this offset, if its statement declares
+abbrev pub sort_number : Sort → ℕ
+sort_number Constant = 1
+sort_number Variable = 2
+
+unfoldable pub globally : Option Sort → List ℕ → ℕ → ℕ → ℕ → List ℕ
+globally None w n a at = w
+globally (Some k) w n a at = noted w (symbol_cell n a 1) (2 * at + sort_number k)

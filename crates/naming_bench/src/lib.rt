@@ -5,17 +5,12 @@ ghost use Rattle.std.specs.Prelude.{length};
 ghost use Rattle.paper.specs.Reader.{reading};
 ghost use Rattle.naming_bench.specs.Names.{Names};
 
-use paper::Reading;
-
 // Reads a text, and names its labels and symbols if it is read. The work area is not cleared.
 #[unsafe(no_mangle)]
 pub extern "C" fn naming_bench_name(text: &[u8], work: &mut [u32])
     ensures { Names text.now work.new (length work.old) (reading text.now (length work.old)) }
 {
-    match reader::read(text, work) {
-        Reading::Unread(_, _) => {}
-        Reading::Read(rows, _) => {
-            fold::start::start(text, work, rows);
-        }
+    if let Ok(read) = reader::read(text, work) {
+        fold::start::start(text, work, read.rows);
     }
 }

@@ -24,3 +24,4 @@ pub mod Gather
 pub mod Made
 pub mod Comments
 pub mod Allowed
+pub mod Same

@@ -6,7 +6,7 @@ use Prim.Native.Nat.{ℕ}
 use Rattle.paper.specs.Base.{codes}
 use Rattle.paper.specs.Tokens.{tokens}
 use Rattle.paper.specs.Lines.{feeds, line_at}
-use Rattle.paper.specs.Answer.{number, place, line, measured_line, measured, measuring, measure, answer}
+use Rattle.paper.specs.Answer.{number, place, line, measured, measuring, measure, answer}
 use Rattle.paper.specs.declared.Setting.{Setting}
 use Rattle.paper.specs.declared.Setting.TheVariants.{Short, Full}
 use Rattle.paper.proofs.Table.{operation}
@@ -24,7 +24,7 @@ expected (told_in t w x) = x
 
 unfoldable pub telling : Setting → List ℕ → ℕ → Told
 unfolding operation measured measuring measure feeds line_at
-telling c t w = let a = answer c t w 0 0 in told (number a) (place a) (line a) (measured_line (measure c t w))
+telling c t w = let a = answer c t w 0 0 in told (number a) (place a) (line a) (line (measure c t w))
 
 abbrev pub computed : Setting → Case → Told
 computed c (told_in t w x) = telling c t w

@@ -9,7 +9,7 @@ use Rattle.paper.specs.Base.{codes, find}
 use Rattle.paper.specs.Reader.{refused, reading}
 use Rattle.paper.specs.Frames.{Frame}
 use Rattle.paper.specs.Give.{Given}
-use Rattle.paper.specs.Answer.{crowded, frame_at, frames_in, measured_number, measured_place, frames_needed, diags_needed, measured_count, measured, measuring, measure, work_exit}
+use Rattle.paper.specs.Answer.{crowded, frame_at, frames_in, number, place, frames_used, diags_used, count, measured, measuring, measure, work_exit}
 use Rattle.paper.specs.declared.Setting.{Setting}
 use Rattle.paper.specs.declared.Setting.TheVariants.{Short, Full}
 use Rattle.paper.specs.declared.Refusal.{Refusal}
@@ -31,7 +31,7 @@ unfoldable pub measurement : Setting → List ℕ → List ℕ → Sizes
 unfolding operation measured measuring measure
 measurement c t w =
     let m = measure c t (length w) in
-    sizes (measured_number m) (measured_place m) (frames_needed m) (diags_needed m) (measured_count m) (work_exit w)
+    sizes (number m) (place m) (frames_used m) (diags_used m) (count m) (work_exit w)
 
 abbrev pub computed : Setting → Case → Sizes
 computed c (measured_in t w x) = measurement c t w

@@ -1,6 +1,7 @@
 -- Numbers given back: what measure and writer answer, with 0 to 9 in their order, and every lent buffer at exit.
 -- Numbers 1 to 9 report all lengths as 0 and change neither output buffer; the measure gives none of 8 and 9.
 use Rattle.std.specs.Prelude.{Bool, false, List, [], ◌++◌, ℕ, ◌+◌, ltb, length, take, drop, replicate}
+use Rattle.std.specs.Prelude.{Result, Ok, Err}
 use Rattle.std.proofs.Math.Option.{Option, none, some}
 use Rattle.paper.specs.Base.{choose, find, gather}
 use Rattle.paper.specs.Lines.{line_at}
@@ -13,10 +14,8 @@ use Rattle.paper.specs.Records.{frame_stream, diag_stream, verdict_stream}
 use Rattle.paper.specs.declared.Refusal.{Refusal}
 use Rattle.paper.specs.declared.Refusal.TheVariants.{LongText, ShortWork, BadByte, OpenComment, BadToken, OpenText, ManyVariables, ShortFrames, ShortDiags}
 use Rattle.paper.specs.declared.Setting.{Setting}
-use Rattle.paper.specs.declared.Measured.{Measured}
-use Rattle.paper.specs.declared.Measured.TheVariants as lengths
-use Rattle.paper.specs.declared.Answer.{Answer}
-use Rattle.paper.specs.declared.Answer.TheVariants.{Done, Refused}
+use Rattle.paper.specs.declared.Refused.{Refused}
+use Rattle.paper.specs.declared.Lengths.{Lengths}
 
 -- ---- the number, place and line of each refusal
 abbrev pub refusal_number : Refusal → ℕ
@@ -53,55 +52,40 @@ refusal_line t (ManyVariables p) = 0
 refusal_line t (ShortFrames p) = 0
 refusal_line t (ShortDiags p) = 0
 
--- ---- number, place, line, lengths and number of frames of what the measure answers
-abbrev pub measured_number : Measured → ℕ
-measured_number (lengths.Needs f d n) = 0
-measured_number (lengths.Refused r l) = refusal_number r
+-- ---- what measure and writer answer: the lengths that are needed or used, or a refusal with its line
+abbrev pub Answer : Type 0
+Answer = Result Lengths Refused
 
-abbrev pub measured_place : Measured → ℕ
-measured_place (lengths.Needs f d n) = 0
-measured_place (lengths.Refused r l) = refusal_place r
+abbrev pub done : ℕ → ℕ → ℕ → Answer
+done f d n = Ok (record { frames = f; diags = d; count = n })
 
-abbrev pub measured_line : Measured → ℕ
-measured_line (lengths.Needs f d n) = 0
-measured_line (lengths.Refused r l) = l
+abbrev pub not_done : Refusal → ℕ → Answer
+not_done r l = Err (record { refusal = r; line = l })
 
-abbrev pub frames_needed : Measured → ℕ
-frames_needed (lengths.Needs f d n) = f
-frames_needed (lengths.Refused r l) = 0
-
-abbrev pub diags_needed : Measured → ℕ
-diags_needed (lengths.Needs f d n) = d
-diags_needed (lengths.Refused r l) = 0
-
-abbrev pub measured_count : Measured → ℕ
-measured_count (lengths.Needs f d n) = n
-measured_count (lengths.Refused r l) = 0
-
--- ---- number, place, line, used lengths and number of frames of what the writer answers
+-- ---- its number, place, line, lengths and number of frames
 abbrev pub number : Answer → ℕ
-number (Done f d n) = 0
-number (Refused r l) = refusal_number r
+number (Ok s) = 0
+number (Err r) = refusal_number r.refusal
 
 abbrev pub place : Answer → ℕ
-place (Done f d n) = 0
-place (Refused r l) = refusal_place r
+place (Ok s) = 0
+place (Err r) = refusal_place r.refusal
 
 abbrev pub line : Answer → ℕ
-line (Done f d n) = 0
-line (Refused r l) = l
+line (Ok s) = 0
+line (Err r) = r.line
 
 abbrev pub frames_used : Answer → ℕ
-frames_used (Done f d n) = f
-frames_used (Refused r l) = 0
+frames_used (Ok s) = s.frames
+frames_used (Err r) = 0
 
 abbrev pub diags_used : Answer → ℕ
-diags_used (Done f d n) = d
-diags_used (Refused r l) = 0
+diags_used (Ok s) = s.diags
+diags_used (Err r) = 0
 
 abbrev pub count : Answer → ℕ
-count (Done f d n) = n
-count (Refused r l) = 0
+count (Ok s) = s.count
+count (Err r) = 0
 
 -- ---- number 7: an assertion's frame has over 4,095 variables
 abbrev pub crowded : Frame → Bool
@@ -143,12 +127,12 @@ unfoldable pub measuring : Setting → List ℕ → ℕ → Outcome Streams
 measuring c t w = measured_of c (reading t w)
 
 -- of the text t
-abbrev pub needs_of : List ℕ → Outcome Streams → Measured
-needs_of t (refused r) = lengths.Refused r (refusal_line t r)
-needs_of t (given s) = lengths.Needs (length s.frames) (length s.diags) s.count
+abbrev pub answer_of : List ℕ → Outcome Streams → Answer
+answer_of t (refused r) = not_done r (refusal_line t r)
+answer_of t (given s) = done (length s.frames) (length s.diags) s.count
 
-unfoldable pub measure : Setting → List ℕ → ℕ → Measured
-measure c t w = needs_of t (measuring c t w)
+unfoldable pub measure : Setting → List ℕ → ℕ → Answer
+measure c t w = answer_of t (measuring c t w)
 
 -- ---- what the writer answers
 -- numbers 8 and 9, for buffers of f and d bytes
@@ -172,11 +156,6 @@ written_of c (given l) f d = written c (all_given l) f d
 -- the streams of a text, given so many words of work area and bytes of output buffers; or one of numbers 1 to 9
 unfoldable pub outcome : Setting → List ℕ → ℕ → ℕ → ℕ → Outcome Streams
 outcome c t w f d = written_of c (reading t w) f d
-
--- of the text t
-abbrev pub answer_of : List ℕ → Outcome Streams → Answer
-answer_of t (refused r) = Refused r (refusal_line t r)
-answer_of t (given s) = Done (length s.frames) (length s.diags) s.count
 
 unfoldable pub answer : Setting → List ℕ → ℕ → ℕ → ℕ → Answer
 answer c t w f d = answer_of t (outcome c t w f d)

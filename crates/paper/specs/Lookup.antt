@@ -1,22 +1,27 @@
 -- Look-up walks the whole frame buffer first. A record is well framed if four bytes remain, its length is at least 2 and
 -- fits the buffer, its kind is 1 to 4, and its label lies within it; one of kind 1 has a stub string (A10 of document 02).
 use Rattle.std.specs.Prelude.{◌≡◌, refl, Bool, true, false, List, [], ◌∷◌, ◌++◌, ℕ, zero, suc, ◌+◌, ◌*◌, eqb, ltb, length, get_or, take, drop}
+use Rattle.std.specs.Prelude.{Some, None}
+use Rattle.std.specs.Prelude as answer
+use Rattle.std.specs.Prelude.{Result, Ok, Err}
 use Rattle.std.proofs.Math.Option.{Option, none, some}
 use Rattle.paper.specs.Base.{choose, or, not, codes, sameb}
 use Rattle.paper.specs.Records.{le, u16, u32, string, framed}
-use Rattle.paper.specs.declared.Found.{Found}
-use Rattle.paper.specs.declared.Found.TheVariants.{At, Malformed, Missing}
+use Rattle.paper.specs.declared.Malformed.{Malformed}
 
--- ---- number and place
+-- ---- what look-up answers: the offset of a record or of none, or the first bad record; its number and place
+abbrev pub Found : Type 0
+Found = Result (answer.Option ℕ) Malformed
+
 abbrev pub found_number : Found → ℕ
-found_number (At p) = 0
-found_number (Malformed p) = 10
-found_number Missing = 11
+found_number (Ok (Some p)) = 0
+found_number (Err e) = 10
+found_number (Ok None) = 11
 
 abbrev pub found_place : Found → ℕ
-found_place (At p) = p
-found_place (Malformed p) = p
-found_place Missing = 0
+found_place (Ok (Some p)) = p
+found_place (Err e) = e.0
+found_place (Ok None) = 0
 
 -- ---- numbers in some bytes, at a place
 unfoldable pub u16_at : List ℕ → ℕ → ℕ
@@ -70,20 +75,20 @@ label_of l =
 
 -- the record at offset o has this label, or is not well framed; and so the answer of the records after it
 abbrev pub first_of : Option (List ℕ) → List ℕ → ℕ → Found → Found
-first_of none n o r = Malformed o
-first_of (some m) n o (At p) = choose (sameb m n) (At o) (At p)
-first_of (some m) n o (Malformed p) = Malformed p
-first_of (some m) n o Missing = choose (sameb m n) (At o) Missing
+first_of none n o r = Err (record { 0 = o })
+first_of (some m) n o (Ok (Some p)) = choose (sameb m n) (Ok (Some o)) (Ok (Some p))
+first_of (some m) n o (Err e) = Err e
+first_of (some m) n o (Ok None) = choose (sameb m n) (Ok (Some o)) (Ok None)
 
 -- the records of some bytes of which the first has offset o, after k further bytes of the record before them
 unfoldable pub search_from : List ℕ → List ℕ → ℕ → ℕ → Found
-search_from n [] o k = Missing
+search_from n [] o k = Ok None
 search_from n (b ∷ l) o (suc k) = search_from n l (suc o) k
 search_from n (b ∷ l) o zero =
     first_of (label_of (b ∷ l)) n o (search_from n l (suc o) (3 + u32_at (b ∷ l) 0))
 
 -- one byte to pass, then a record of b and a record of a, each of 15 bytes
-pub search_shown : search_from (codes "a") (7 ∷ (framed 2 (u32 0 ++ string (codes "b")) ++ framed 2 (u32 9 ++ string (codes "a")))) 20 1 ≡ At 36
+pub search_shown : search_from (codes "a") (7 ∷ (framed 2 (u32 0 ++ string (codes "b")) ++ framed 2 (u32 9 ++ string (codes "a")))) 20 1 ≡ Ok (Some 36)
 unfolding le u16 u32 string framed sameb u16_at u32_at stub_if label_of search_from
 search_shown = refl
 

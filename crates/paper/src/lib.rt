@@ -1,6 +1,8 @@
 // The types that the definitions and the code share: the kinds of number, and the answers.
-// `specs/Answer.antt` gives document 01's number, place and lengths for each case of an answer.
+// `specs/Answer.antt` gives document 01's number, place and lengths for each case of an answer; `told` has them for the code.
 #![tactic(auto)]
+
+pub mod told;
 
 /// A distinct name, numbered by first sight.
 #[derive(Clone, Copy)]
@@ -44,11 +46,18 @@ pub enum Refusal {
     ShortDiags(u64),
 }
 
-/// What the reader answers: the numbers of statements and of math tokens, or a refusal and its line.
+/// Why a text is refused, and the line of that; 0 where no line is told.
 #[derive(Clone, Copy)]
-pub enum Reading {
-    Read(usize, usize),
-    Unread(Refusal, u64),
+pub struct Refused {
+    pub refusal: Refusal,
+    pub line: u64,
+}
+
+/// A text that is read: the numbers of its statements and of its math tokens.
+#[derive(Clone, Copy)]
+pub struct Statements {
+    pub rows: usize,
+    pub maths: usize,
 }
 
 /// Which frames of assertions are written: with the mandatory variables only, or full.
@@ -58,32 +67,30 @@ pub enum Setting {
     Full,
 }
 
-/// What the measure answers: the bytes of frames and of diagnostics and the number of frames, or a refusal and its line.
+/// How many bytes of frames and of diagnostics there are, and how many frames.
 #[derive(Clone, Copy)]
-pub enum Measured {
-    Needs(u64, u64, u64),
-    Refused(Refusal, u64),
+pub struct Lengths {
+    pub frames: u64,
+    pub diags: u64,
+    pub count: u64,
 }
 
-/// What the writer answers: the used lengths and the number of frames, or a refusal and its line.
-#[derive(Clone, Copy)]
-pub enum Answer {
-    Done(u64, u64, u64),
-    Refused(Refusal, u64),
-}
+/// What measure and writer answer: the lengths that are needed or used, or why the text is refused.
+pub type Answer = Result<Lengths, Refused>;
 
-/// What look-up answers: the record's offset, the first bad record, or no such label.
+/// The first bad record of a frame stream, by its offset.
 #[derive(Clone, Copy)]
-pub enum Found {
-    At(u64),
-    Malformed(u64),
-    Missing,
-}
+pub struct Malformed(pub u64);
 
-/// What the converter answers: the used bytes, the first record that does not fit its layout, or the bytes needed.
+/// What look-up answers: the record's offset, or none where no record bears the label; or the first bad record.
+pub type Found = Result<Option<u64>, Malformed>;
+
+/// Why a stream is not converted: its first record that does not fit its layout, or the bytes needed.
 #[derive(Clone, Copy)]
-pub enum Converted {
-    Renewed(u64),
+pub enum Unconverted {
     Unfit(u64),
     NoRoom(u64),
 }
+
+/// What the converter answers: the used bytes, or why there are none.
+pub type Converted = Result<u64, Unconverted>;

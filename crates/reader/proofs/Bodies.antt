@@ -1,6 +1,7 @@
 -- A statement from its keyword on: its math string, what closes it, its proof; the state after it.
 -- Assumes nothing.
 use mathlib.Core.Path.{◌≡◌, refl, sym, ap, ◌∙◌}
+use Rattle.std.specs.Prelude.{Option, Some, None, Result, Ok, Err}
 use mathlib.Core.Bool.{false}
 use mathlib.Core.List.{List, [], ◌∷◌, ◌++◌, append-nil}
 use Prim.Native.Nat.{ℕ, ◌+◌, ◌<◌, ◌≤◌}
@@ -13,7 +14,7 @@ use Rattle.paper.specs.Base.{choose, and, sameb}
 use Rattle.paper.specs.Tokens.{Token, key, math_token}
 use Rattle.paper.specs.Statements.{Kind, $c, $v, $d, $f, $e, $a, $p, Item}
 use Rattle.paper.specs.Reader.{Mode, start, math, proof, Step, go, stop, room, least, closing, statement, closed, allow, with_items, refused, finish}
-use Rattle.paper.specs.declared.Refusal.{Refusal}
+use Rattle.paper.specs.declared.Refused.{Refused}
 use Rattle.paper.specs.declared.Refusal.TheVariants.{BadToken, OpenText}
 use Rattle.paper.proofs.Tests.{split}
 use Rattle.token.specs.Words.{tokens_from, token_of, Lined}
@@ -22,22 +23,29 @@ use Rattle.token.specs.declared.cursor.Cursor.{Cursor}
 use Rattle.token.proofs.Counts.{few_tokens}
 use Rattle.reader.specs.Rows.{kind_number}
 use Rattle.reader.specs.Passed.{Reached, Shows, RefusedAt, Refuses, Seen}
-use Rattle.reader.specs.Kinds.{least_number, most_number, closing_number}
+use Rattle.reader.specs.Kinds.{kind_of, number_of, least_number, most_number, closing_number}
+use Rattle.reader.specs.declared.kind.Kind.TheVariants.{C, V, D, F, E, A, P}
 use Rattle.reader.specs.Runs.{RunRoom, Running, Ran, Proved, closing_of}
 use Rattle.reader.specs.Kept.{with_row, RowRoom, next_state}
 use Rattle.reader.specs.Held.{Held, Begun, Stated}
-use Rattle.reader.specs.declared.comment.Visible.{Visible}
-use Rattle.reader.specs.declared.comment.Visible.TheVariants as vis
 use Rattle.reader.specs.declared.run.Run.{Run}
-use Rattle.reader.specs.declared.run.Closing.TheVariants as closing'
 use Rattle.reader.specs.declared.state.State.{State}
 use Rattle.reader.specs.declared.state.Head.{Head}
 use Rattle.reader.proofs.Passes.{passed_few}
 use Rattle.reader.proofs.Grammar.{many_math, many_proof, reached_run, reached_token, reached_few, refuse_token, reach_end}
 use Rattle.reader.proofs.Keeping.{words_statement}
 
--- ---- kinds by their numbers
-least_is : (k : Kind) → least_number (kind_number k) ≡ least k
+-- ---- kinds
+number_is : (k : Kind) → number_of (kind_of k) ≡ kind_number k
+number_is $c = refl
+number_is $v = refl
+number_is $d = refl
+number_is $f = refl
+number_is $e = refl
+number_is $a = refl
+number_is $p = refl
+
+least_is : (k : Kind) → least_number (kind_of k) ≡ least k
 least_is $c = refl
 least_is $v = refl
 least_is $d = refl
@@ -46,7 +54,7 @@ least_is $e = refl
 least_is $a = refl
 least_is $p = refl
 
-closing_is : (k : Kind) → closing_number (kind_number k) ≡ closing k
+closing_is : (k : Kind) → closing_number (kind_of k) ≡ closing k
 closing_is $c = refl
 closing_is $v = refl
 closing_is $d = refl
@@ -56,7 +64,7 @@ closing_is $a = refl
 closing_is $p = refl
 
 -- no text has so many math tokens that another kind than `$f` runs out of room
-room_is : (k : Kind) (c : ℕ) → c < 16777217 → room k c ≡ ltb c (most_number (kind_number k))
+room_is : (k : Kind) (c : ℕ) → c < 16777217 → room k c ≡ ltb c (most_number (kind_of k))
 room_is $c c h = sym (lt-ltb c 16777217 h)
 room_is $v c h = sym (lt-ltb c 16777217 h)
 room_is $d c h = sym (lt-ltb c 16777217 h)
@@ -74,16 +82,16 @@ least_some $e = omega arith
 least_some $a = omega arith
 least_some $p = omega arith
 
-pub proof_kind : (k : Kind) → kind_number k ≡ 7 → k ≡ $p
-proof_kind $c h = absurd (omega (arith, h))
-proof_kind $v h = absurd (omega (arith, h))
-proof_kind $d h = absurd (omega (arith, h))
-proof_kind $f h = absurd (omega (arith, h))
-proof_kind $e h = absurd (omega (arith, h))
-proof_kind $a h = absurd (omega (arith, h))
+proof_kind : (k : Kind) → kind_of k ≡ P → k ≡ $p
+proof_kind $c h = let q : C ≡ P = h in let z : ◌≡◌ {A = ℕ} 0 1 = cc in absurd (omega arith)
+proof_kind $v h = let q : V ≡ P = h in let z : ◌≡◌ {A = ℕ} 0 1 = cc in absurd (omega arith)
+proof_kind $d h = let q : D ≡ P = h in let z : ◌≡◌ {A = ℕ} 0 1 = cc in absurd (omega arith)
+proof_kind $f h = let q : F ≡ P = h in let z : ◌≡◌ {A = ℕ} 0 1 = cc in absurd (omega arith)
+proof_kind $e h = let q : E ≡ P = h in let z : ◌≡◌ {A = ℕ} 0 1 = cc in absurd (omega arith)
+proof_kind $a h = let q : A ≡ P = h in let z : ◌≡◌ {A = ℕ} 0 1 = cc in absurd (omega arith)
 proof_kind $p h = refl
 
-closed_plain : (k : Kind) → (kind_number k ≡ 7 → ⊥) → (d o : ℕ) (n : List ℕ) (m : List Token) → closed k d o n m ≡ go start d (statement k o n m [])
+closed_plain : (k : Kind) → (kind_of k ≡ P → ⊥) → (d o : ℕ) (n : List ℕ) (m : List Token) → closed k d o n m ≡ go start d (statement k o n m [])
 closed_plain $c h d o n m = refl
 closed_plain $v h d o n m = refl
 closed_plain $d h d o n m = refl
@@ -93,60 +101,57 @@ closed_plain $a h d o n m = refl
 closed_plain $p h d o n m = absurd (h refl)
 
 -- ---- what closes a run, where the grammar asks for a keyword after enough tokens
-module _ {t : List ℕ} {e c d : ℕ} {m : Mode} {i : List Item} (r : Reached t e c (go m d i)) (v : Visible) (s : Seen t e v) (z : Step) (count few : ℕ) (k : List ℕ)
-    (f : (n : ℕ) → finish m d i n ≡ refused (OpenText n))
-    (a : (x : Span) (p : Cursor) → v ≡ vis.Token x p → allow m d (token_of t x) ≡ choose (and (sameb (token_of t x).bytes k) (leb few count)) z (stop x.start)) where
+module _ {t : List ℕ} {e c d : ℕ} {m : Mode} {i : List Item} (r : Reached t e c (go m d i)) (v : Result (Option (Span × Cursor)) Refused) (s : Seen t e v)
+    (z : Step) (count few : ℕ) (k : List ℕ) (f : (n : ℕ) → finish m d i n ≡ refused (OpenText n))
+    (a : (p : Span × Cursor) → v ≡ Ok (Some p) → allow m d (token_of t p.0) ≡ choose (and (sameb (token_of t p.0).bytes k) (leb few count)) z (stop p.0.start)) where
   before : {x : Span} {b : Cursor} → Shows t e x b → x.start < b.at
   before h = omega (arith, h.whole.some, h.stands)
 
-  pub close_refused : (y : Refusal) (l : ℕ) → closing'.Refused y l ≡ closing_of t v count few k → RefusedAt t y l
-  close_refused y l q = by v refl q
+  pub close_refused : (y : Refused) → Err y ≡ closing_of t v count few k → RefusedAt t y.refusal y.line
+  close_refused y q = by v refl q
     where
-      by : (u : Visible) → v ≡ u → closing'.Refused y l ≡ closing_of t u count few k → RefusedAt t y l
-      by vis.End p q =
-          let n : y ≡ OpenText (length t) = cc in
-          let z : l ≡ 0 = cc in
-          (reach_end r (rw p at s) (length t) ∙ f (length t) ∙ rw n, rw n z)
-      by (vis.Refused o g) p q =
+      by : (u : Result (Option (Span × Cursor)) Refused) → v ≡ u → Err y ≡ closing_of t u count few k → RefusedAt t y.refusal y.line
+      by (Ok None) p q =
+          let n : y ≡ record { refusal = OpenText (length t); line = 0 } = cc in
+          rw n (reach_end r (rw p at s) (length t) ∙ f (length t), refl)
+      by (Err o) p q =
           let n : y ≡ o = cc in
-          let z : l ≡ g = cc in
-          let h : Refuses t e o g = rw p at s in
-          (h.items_are r ∙ rw n, rw n (z ∙ h.line))
-      by (vis.Token x y') p q =
-          split (and (sameb (token_of t x).bytes k) (leb few count))
+          let h : Refuses t e o.refusal o.line = rw p at s in
+          rw n (h.items_are r, h.line)
+      by (Ok (Some x)) p q =
+          split (and (sameb (token_of t x.0).bytes k) (leb few count))
           (λ b.
-          let g : closing'.Refused y l ≡ closing'.At y' = q ∙ rw b in
+          let g : ◌≡◌ {A = Result Cursor Refused} (Err y) (Ok x.1) = q ∙ rw b in
           let w : ◌≡◌ {A = ℕ} 0 1 = cc in
           absurd (omega arith))
           (λ b.
-          let g : closing'.Refused y l ≡ closing'.Refused (BadToken x.start) x.line = q ∙ rw b in
-          let n : y ≡ BadToken x.start = cc in
-          let z : l ≡ x.line = cc in
-          let h : Shows t e x y' = rw p at s in
-          (refuse_token (reached_token {z = stop x.start} r h (a x y' p ∙ rw b)) (before h) (length t) ∙ rw n, rw n (z ∙ h.whole.lined)))
+          let g : ◌≡◌ {A = Result Cursor Refused} (Err y) (Err (record { refusal = BadToken x.0.start; line = x.0.line })) = q ∙ rw b in
+          let n : y ≡ record { refusal = BadToken x.0.start; line = x.0.line } = cc in
+          let h : Shows t e x.0 x.1 = rw p at s in
+          rw n (refuse_token (reached_token {z = stop x.0.start} r h (a x p ∙ rw b)) (before h) (length t), h.whole.lined))
 
-  pub close_at : (o : Cursor) → closing'.At o ≡ closing_of t v count few k
+  pub close_at : (o : Cursor) → Ok o ≡ closing_of t v count few k
       → (length (tokens_from t o.at) < length (tokens_from t e)) × Reached t o.at (c + 1) (with_items i z) × (few ≤ count) × Lined t o
   close_at o q = by v refl q
     where
-      by : (u : Visible) → v ≡ u → closing'.At o ≡ closing_of t u count few k
+      by : (u : Result (Option (Span × Cursor)) Refused) → v ≡ u → Ok o ≡ closing_of t u count few k
           → (length (tokens_from t o.at) < length (tokens_from t e)) × Reached t o.at (c + 1) (with_items i z) × (few ≤ count) × Lined t o
-      by vis.End p q = let w : ◌≡◌ {A = ℕ} 0 1 = cc in absurd (omega arith)
-      by (vis.Refused f g) p q = let w : ◌≡◌ {A = ℕ} 0 1 = cc in absurd (omega arith)
-      by (vis.Token y y') p q =
-          split (sameb (token_of t y).bytes k)
+      by (Ok None) p q = let w : ◌≡◌ {A = ℕ} 0 1 = cc in absurd (omega arith)
+      by (Err f) p q = let w : ◌≡◌ {A = ℕ} 0 1 = cc in absurd (omega arith)
+      by (Ok (Some y)) p q =
+          split (sameb (token_of t y.0).bytes k)
           (λ b₁. split (leb few count)
           (λ b₂.
-          let g : closing'.At o ≡ closing'.At y' = q ∙ rw (b₁, b₂) in
-          let n : o ≡ y' = cc in
-          let h : Shows t e y y' = rw p at s in
-          rw n (omega (arith, passed_few h.passed), reached_token {z = z} r h (a y y' p ∙ rw (b₁, b₂)), leb-true few count b₂, h.lined))
+          let g : ◌≡◌ {A = Result Cursor Refused} (Ok o) (Ok y.1) = q ∙ rw (b₁, b₂) in
+          let n : o ≡ y.1 = cc in
+          let h : Shows t e y.0 y.1 = rw p at s in
+          rw n (omega (arith, passed_few h.passed), reached_token {z = z} r h (a y p ∙ rw (b₁, b₂)), leb-true few count b₂, h.lined))
           (λ b₂.
-          let g : closing'.At o ≡ closing'.Refused (BadToken y.start) y.line = q ∙ rw (b₁, b₂) in
+          let g : ◌≡◌ {A = Result Cursor Refused} (Ok o) (Err (record { refusal = BadToken y.0.start; line = y.0.line })) = q ∙ rw (b₁, b₂) in
           let w : ◌≡◌ {A = ℕ} 0 1 = cc in
           absurd (omega arith)))
           (λ b₁.
-          let g : closing'.At o ≡ closing'.Refused (BadToken y.start) y.line = q ∙ rw b₁ in
+          let g : ◌≡◌ {A = Result Cursor Refused} (Ok o) (Err (record { refusal = BadToken y.0.start; line = y.0.line })) = q ∙ rw b₁ in
           let w : ◌≡◌ {A = ℕ} 0 1 = cc in
           absurd (omega arith))
 
@@ -195,7 +200,7 @@ module _ {t w : List ℕ} {n : ℕ} {s : State} {h : Head} (b : Begun t w n s h)
         rw (ev, es) (
           record {
             found = b.found ++ statement b.kind h.at b.name r.ms ps;
-            words = words_statement b.words h b.kind b.name ps r some b.code b.label b.bears
+            words = words_statement b.words h b.kind b.name ps r some (ap number_of b.code ∙ number_is b.kind) b.label b.bears
                 (omega (arith, b.words.size, b.words.little, b.words.fewer)) (omega (arith, b.words.size)) (omega (arith, b.words.size));
             reached = record { seen = q.seen; passed = q.passed; step = q.step; size = omega (arith, q.size) };
             lined = line;
@@ -212,33 +217,33 @@ module _ {t w : List ℕ} {n : ℕ} {s : State} {h : Head} (b : Begun t w n s h)
     ran : Reached t run.stop.at (s.rows + s.items + s.maths + 1 + run.count) (go (math b.kind h.at b.name ms) s.depth b.found)
     unfolding ms
     ran =
-        let k : run.count ≤ most_number (kind_number b.kind) = rw (ap most_number b.code) at r.run.upto in
+        let k : run.count ≤ most_number (kind_of b.kind) = rw (ap most_number b.code) at r.run.upto in
         let c = r.run.counted in
         let few : run.count < 16777217 = omega (arith, passed_few r.run.passed, reached_few b.reached, b.words.size, small) in
         let q = reached_run b.reached r.run.passed
         (many_math r.run.ms [] b.kind h.at b.name s.depth b.found r.run.maths
-        (λ j l. rw zero-add (room_is b.kind j (omega arith) ∙ lt-ltb j (most_number (kind_number b.kind)) (omega arith)))) in
+        (λ j l. rw zero-add (room_is b.kind j (omega arith) ∙ lt-ltb j (most_number (kind_of b.kind)) (omega arith)))) in
         rw c at q
 
-    allows : (x : Span) (o : Cursor) → run.after ≡ vis.Token x o
-        → allow (math b.kind h.at b.name ms) s.depth (token_of t x)
-        ≡ choose (and (sameb (token_of t x).bytes (36 ∷ closing_number h.kind ∷ [])) (leb (least_number h.kind) run.count))
-        (closed b.kind s.depth h.at b.name ms) (stop x.start)
+    allows : (x : Span × Cursor) → run.after ≡ Ok (Some x)
+        → allow (math b.kind h.at b.name ms) s.depth (token_of t x.0)
+        ≡ choose (and (sameb (token_of t x.0).bytes (36 ∷ closing_number h.kind ∷ [])) (leb (least_number h.kind) run.count))
+        (closed b.kind s.depth h.at b.name ms) (stop x.0.start)
     unfolding ms allow key
-    allows x o p =
+    allows x p =
         let few : run.count < 16777217 = omega (arith, passed_few r.run.passed, reached_few b.reached, b.words.size, small) in
-        let e : and (math_token (token_of t x)) (room b.kind (length r.run.ms)) ≡ false =
+        let e : and (math_token (token_of t x.0)) (room b.kind (length r.run.ms)) ≡ false =
         rw (r.run.counted, room_is b.kind run.count few) (rw (p, ap most_number b.code) at r.ends) in
         let p₁ : closing_number h.kind ≡ closing b.kind = ap closing_number b.code ∙ closing_is b.kind in
         let p₂ : least_number h.kind ≡ least b.kind = ap least_number b.code ∙ least_is b.kind in
         rw (e, p₁, p₂, r.run.counted)
 
-    pub body_refused : (y : Refusal) (l : ℕ) → closing'.Refused y l ≡ closing_of t run.after run.count (least_number h.kind) (36 ∷ closing_number h.kind ∷ [])
-        → RefusedAt t y l
-    body_refused y l q =
-        close_refused ran run.after r.after _ run.count (least_number h.kind) (36 ∷ closing_number h.kind ∷ []) (λ n. refl) allows y l q
+    pub body_refused : (y : Refused) → Err y ≡ closing_of t run.after run.count (least_number h.kind) (36 ∷ closing_number h.kind ∷ [])
+        → RefusedAt t y.refusal y.line
+    body_refused y q =
+        close_refused ran run.after r.after _ run.count (least_number h.kind) (36 ∷ closing_number h.kind ∷ []) (λ n. refl) allows y q
 
-    closed_at : (o : Cursor) → closing'.At o ≡ closing_of t run.after run.count (least_number h.kind) (36 ∷ closing_number h.kind ∷ [])
+    closed_at : (o : Cursor) → Ok o ≡ closing_of t run.after run.count (least_number h.kind) (36 ∷ closing_number h.kind ∷ [])
         → (length (tokens_from t o.at) < length (tokens_from t run.stop.at))
         × Reached t o.at (s.rows + s.items + s.maths + 1 + run.count + 1) (with_items b.found (closed b.kind s.depth h.at b.name ms))
         × (least_number h.kind ≤ run.count)
@@ -246,7 +251,7 @@ module _ {t w : List ℕ} {n : ℕ} {s : State} {h : Head} (b : Begun t w n s h)
     closed_at o q =
         close_at ran run.after r.after (closed b.kind s.depth h.at b.name ms) run.count (least_number h.kind) (36 ∷ closing_number h.kind ∷ []) (λ n. refl) allows o q
 
-    module _ (o : Cursor) (q : closing'.At o ≡ closing_of t run.after run.count (least_number h.kind) (36 ∷ closing_number h.kind ∷ [])) where
+    module _ (o : Cursor) (q : Ok o ≡ closing_of t run.after run.count (least_number h.kind) (36 ∷ closing_number h.kind ∷ [])) where
       pub body_some : 1 ≤ run.count
       body_some = omega (arith, (closed_at o q).2, ap least_number b.code, least_is b.kind, least_some b.kind)
 
@@ -257,7 +262,7 @@ module _ {t w : List ℕ} {n : ℕ} {s : State} {h : Head} (b : Begun t w n s h)
       body_less = omega (arith, b.less, passed_few r.run.passed, (closed_at o q).0)
 
       -- any kind but `$p` is done
-      pub body_plain : (h.kind ≡ 7 → ⊥)
+      pub body_plain : (h.kind ≡ P → ⊥)
           → Reached t o.at (s.rows + s.items + s.maths + 2 + run.count) (go start s.depth (b.found ++ statement b.kind h.at b.name r.run.ms []))
       unfolding ms
       body_plain k =
@@ -267,7 +272,7 @@ module _ {t w : List ℕ} {n : ℕ} {s : State} {h : Head} (b : Begun t w n s h)
           rw (e, c) at (closed_at o q).1
 
       -- the proof of a `$p` follows
-      pub body_proof : h.kind ≡ 7 → Stated t u n s h run.stop.at run.count o.at
+      pub body_proof : h.kind ≡ P → Stated t u n s h run.stop.at run.count o.at
       unfolding ms
       body_proof k =
           let p : b.kind ≡ $p = proof_kind b.kind (sym b.code ∙ k) in
@@ -292,19 +297,19 @@ module _ {t u : List ℕ} {n : ℕ} {s : State} {h : Head} {to count at : ℕ} (
       reached_run d.reached r.run.passed
       (many_proof r.run.ps [] h.at d.begun.name d.run.ms s.depth d.begun.found r.run.maths)
 
-  allows_proof : (x : Span) (o : Cursor) → run.after ≡ vis.Token x o
-      → allow (proof h.at d.begun.name d.run.ms r.run.ps) s.depth (token_of t x)
-      ≡ choose (and (sameb (token_of t x).bytes (36 ∷ 46 ∷ [])) (leb 1 run.count))
-      (go start s.depth (statement $p h.at d.begun.name d.run.ms r.run.ps)) (stop x.start)
+  allows_proof : (x : Span × Cursor) → run.after ≡ Ok (Some x)
+      → allow (proof h.at d.begun.name d.run.ms r.run.ps) s.depth (token_of t x.0)
+      ≡ choose (and (sameb (token_of t x.0).bytes (36 ∷ 46 ∷ [])) (leb 1 run.count))
+      (go start s.depth (statement $p h.at d.begun.name d.run.ms r.run.ps)) (stop x.0.start)
   unfolding allow key
-  allows_proof x o p =
-      let e : math_token (token_of t x) ≡ false = rw p at r.ends in
+  allows_proof x p =
+      let e : math_token (token_of t x.0) ≡ false = rw p at r.ends in
       rw (e, r.run.some)
 
-  pub proof_refused : (y : Refusal) (l : ℕ) → closing'.Refused y l ≡ closing_of t run.after run.count 1 (36 ∷ 46 ∷ []) → RefusedAt t y l
-  proof_refused y l q = close_refused proved run.after r.after _ run.count 1 (36 ∷ 46 ∷ []) (λ n. refl) allows_proof y l q
+  pub proof_refused : (y : Refused) → Err y ≡ closing_of t run.after run.count 1 (36 ∷ 46 ∷ []) → RefusedAt t y.refusal y.line
+  proof_refused y q = close_refused proved run.after r.after _ run.count 1 (36 ∷ 46 ∷ []) (λ n. refl) allows_proof y q
 
-  module _ (o : Cursor) (q : closing'.At o ≡ closing_of t run.after run.count 1 (36 ∷ 46 ∷ [])) where
+  module _ (o : Cursor) (q : Ok o ≡ closing_of t run.after run.count 1 (36 ∷ 46 ∷ [])) where
     shown : (length (tokens_from t o.at) < length (tokens_from t run.stop.at))
         × Reached t o.at (s.rows + s.items + s.maths + 2 + count + length r.run.ps + 1) (go start s.depth (d.begun.found ++ statement $p h.at d.begun.name d.run.ms r.run.ps))
         × (1 ≤ run.count)

@@ -1,6 +1,7 @@
 -- Proofs passed by their bytes: between the two places stand math tokens only, for no byte there is a `$` or a bad one.
 -- Assumes nothing.
 use mathlib.Core.Path.{◌≡◌, refl, sym, ap, ◌∙◌}
+use Rattle.std.proofs.Common.{◌⊎◌, inl, inr}
 use mathlib.Core.Bool.{true, false}
 use mathlib.Core.List.{List, [], ◌∷◌, ◌++◌}
 use Prim.Native.Nat.{ℕ, suc, ◌+◌, ◌-◌, ◌<◌, ◌≤◌, suc-le-suc}
@@ -23,10 +24,13 @@ use Rattle.reader.specs.Dollar.{Begins}
 use Rattle.reader.proofs.Passes.{tokens_white, passed_none}
 
 -- what the code's comparisons say of a byte b of class c
-pub odd_class : (b : ℕ) (c : ℕ) → c ≡ class b → (c ≡ 1 → ⊥) → c < 3 → plain b ≡ false
-odd_class b c p n l =
-    rw (sym (class_white b) ∙ ne_eqb (class b) 1 (λ e. n (p ∙ e)))
-    (sym (class_math b) ∙ lt-leb 3 (class b) (omega (arith, p)))
+pub odd_class : (b : ℕ) {c : ℕ} → c ≡ class b → (c ≡ 0) ⊎ ((c ≡ 0 → ⊥) × (c ≡ 2)) → plain b ≡ false
+odd_class b {c} p o = odd (elim o [ inl z ↦ (λ e. omega (arith, e, z), omega (arith, z)) | inr z ↦ (λ e. omega (arith, e, z.1), omega (arith, z.1)) ])
+  where
+    odd : (c ≡ 1 → ⊥) × (c < 3) → plain b ≡ false
+    odd h =
+        rw (sym (class_white b) ∙ ne_eqb (class b) 1 (λ e. h.0 (p ∙ e)))
+        (sym (class_math b) ∙ lt-leb 3 (class b) (omega (arith, p, h.1)))
 
 pub plain_class : (b : ℕ) {c : ℕ} → c ≡ class b → (c ≡ 2 → ⊥) → (c ≡ 0 → ⊥) → plain b ≡ true
 plain_class b {c} p m n =

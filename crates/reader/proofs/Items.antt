@@ -1,6 +1,8 @@
 -- One item: a label and its keyword, a plain keyword, `${`, `$}`, or a token that the grammar does not allow.
 -- Assumes nothing.
 use mathlib.Core.Path.{◌≡◌, refl, sym, ap, ◌∙◌}
+use Rattle.std.specs.Prelude.{Some, None}
+use Rattle.std.specs.Prelude as found
 use mathlib.Core.Bool.{true, false}
 use mathlib.Core.List.{List, [], ◌∷◌, ◌++◌, append-nil}
 use mathlib.Core.Option.{Option, none, some}
@@ -12,7 +14,7 @@ use lib.Seq.{length-take-le}
 use borrow.Author.Tests.{le-leb, lt-leb}
 use Rattle.paper.specs.Tokens.{Token, key, label_token}
 use Rattle.paper.specs.Comments.{outside}
-use Rattle.paper.specs.Statements.{Kind, $c, $v, $d, $f, $e, $a, $p, labelled, opens, closes}
+use Rattle.paper.specs.Statements.{Kind, $c, $v, $d, labelled, opens, closes}
 use Rattle.paper.specs.Reader.{start, named, math, Step, go, stop, plain_kind, label_kind, shut, begin, keyword}
 use Rattle.paper.specs.declared.Refusal.{Refusal}
 use Rattle.paper.specs.declared.Refusal.TheVariants.{BadToken, OpenText}
@@ -22,32 +24,27 @@ use Rattle.token.specs.Words.{tokens_from, token_of}
 use Rattle.token.specs.declared.cursor.Span.{Span}
 use Rattle.token.specs.declared.cursor.Cursor.{Cursor}
 use Rattle.token.proofs.Counts.{few_tokens}
-use Rattle.reader.specs.Rows.{kind_number}
 use Rattle.reader.specs.Passed.{Passed, Reached, Shows, RefusedAt, Refuses}
 use Rattle.reader.specs.Kinds.{code}
+use Rattle.reader.specs.declared.kind.Kind as told
 use Rattle.reader.specs.Kept.{EventRoom, opened, shut_one}
-use Rattle.reader.specs.Held.{Held, Begun, Turned, Taken}
+use Rattle.reader.specs.Held.{Held, Begun}
 use Rattle.reader.specs.declared.state.State.{State}
-use Rattle.reader.specs.declared.state.Turn.{Turn}
-use Rattle.reader.specs.declared.state.Turn.TheVariants as turn
 use Rattle.reader.proofs.Passes.{passed_few, shows_gap, shows_within}
 use Rattle.reader.proofs.Runs.{stands_span}
 use Rattle.reader.proofs.Grammar.{reached_token, reached_few, refuse_token, reach_end, allow_label, allow_open, allow_close, allow_begin, allow_named}
 use Rattle.reader.proofs.Keeping.{words_bracket}
 
--- ---- keywords by their numbers
-kind_some : (k : Kind) → kind_number k ≡ 0 → ⊥
-kind_some $c h = omega (arith, h)
-kind_some $v h = omega (arith, h)
-kind_some $d h = omega (arith, h)
-kind_some $f h = omega (arith, h)
-kind_some $e h = omega (arith, h)
-kind_some $a h = omega (arith, h)
-kind_some $p h = omega (arith, h)
-
-code_none : (o : Option Kind) → code o ≡ 0 → o ≡ none
+-- ---- a keyword's kind, or none
+code_none : (o : Option Kind) → None ≡ code o → o ≡ none
 code_none none h = refl
-code_none (some k) h = absurd (kind_some k h)
+code_none (some k) h = let z : ◌≡◌ {A = ℕ} 0 1 = cc in absurd (omega arith)
+
+some_apart : {A : Type 0} {x y : A} → ◌≡◌ {A = found.Option A} (Some x) (Some y) → x ≡ y
+some_apart e = cc
+
+some_none : {A : Type 0} {x : A} → ◌≡◌ {A = found.Option A} (Some x) None → ⊥
+some_none e = let z : ◌≡◌ {A = ℕ} 0 1 = cc in omega arith
 
 plain_bare : (x : Token) (k : Kind) → plain_kind x ≡ some k → labelled k ≡ false
 plain_bare x k e =
@@ -95,15 +92,15 @@ module _ {t w : List ℕ} {n : ℕ} {s : State} (h : Held t w n s) where
       close_none f₂ z =
           (refuse_token (reached_token {z = stop x.start} h.reached p (allow_close s.depth (token_of t x) f₁ f₂ ∙ rw z)) here_before (length t), p.whole.lined)
 
-      module _ (f₂ : key 125 (token_of t x) ≡ false) {c : ℕ} (q : c ≡ code (plain_kind (token_of t x))) where
-        pub plain_bad : x.least < 4 → c ≡ 0 → RefusedAt t (BadToken x.start) x.line
-        plain_bad l z =
+      module _ (f₂ : key 125 (token_of t x) ≡ false) where
+        pub plain_bad : x.least < 4 → None ≡ code (plain_kind (token_of t x)) → RefusedAt t (BadToken x.start) x.line
+        plain_bad l q =
             let a : label_token (token_of t x) ≡ false = sym p.whole.label ∙ lt-leb 4 x.least l in
-            let b : begin (plain_kind (token_of t x)) s.depth (token_of t x) ≡ stop x.start = rw (code_none (plain_kind (token_of t x)) (sym q ∙ z), a) in
+            let b : begin (plain_kind (token_of t x)) s.depth (token_of t x) ≡ stop x.start = rw (code_none (plain_kind (token_of t x)) q, a) in
             (refuse_token (reached_token {z = stop x.start} h.reached p (allow_begin s.depth (token_of t x) f₁ f₂ ∙ b)) here_before (length t), p.whole.lined)
 
-        pub plain_begun : (c ≡ 0 → ⊥) → Begun t w n s (record { kind = c; at = x.start; label = 0; from = a })
-        plain_begun nz =
+        pub plain_begun : {c : told.Kind} → Some c ≡ code (plain_kind (token_of t x)) → Begun t w n s (record { kind = c; at = x.start; label = 0; from = a })
+        plain_begun {c} q =
             by_option (plain_kind (token_of t x))
             (λ k e.
             let b : begin (plain_kind (token_of t x)) s.depth (token_of t x) ≡ go (math k x.start [] []) s.depth [] = rw e in
@@ -113,7 +110,7 @@ module _ {t w : List ℕ} {n : ℕ} {s : State} (h : Held t w n s) where
               deep = h.deep;
               kind = k;
               name = [];
-              code = q ∙ ap code e;
+              code = some_apart (q ∙ ap code e);
               label = refl;
               bears = λ g. absurd (clash (sym g ∙ plain_bare (token_of t x) k e));
               reached = rw append-nil at (reached_token {z = go (math k x.start [] []) s.depth []} h.reached p (allow_begin s.depth (token_of t x) f₁ f₂ ∙ b));
@@ -124,7 +121,7 @@ module _ {t w : List ℕ} {n : ℕ} {s : State} (h : Held t w n s) where
               at = omega (arith, p.whole.some, p.whole.within);
               size = omega arith;
             })
-            (λ e. absurd (nz (q ∙ ap code e)))
+            (λ e. absurd (some_none (q ∙ ap code e)))
 
     -- `${` and `$}`
     module _ {v : List ℕ} {st : State} where
@@ -175,14 +172,14 @@ module _ {t w : List ℕ} {n : ℕ} {s : State} (h : Held t w n s) where
       pub label_refused : {y : Refusal} {l : ℕ} → Refuses t a.at y l → RefusedAt t y l
       label_refused q = (q.items_are labelled_at, q.line)
 
-      module _ {y : Span} {b : Cursor} (g : Shows t a.at y b) {c : ℕ} (q : c ≡ code (label_kind (token_of t y))) where
-        pub label_bad : c ≡ 0 → RefusedAt t (BadToken y.start) y.line
-        label_bad z =
-            let b : keyword (label_kind (token_of t y)) s.depth (token_of t x) (token_of t y) ≡ stop y.start = rw (code_none (label_kind (token_of t y)) (sym q ∙ z)) in
+      module _ {y : Span} {b : Cursor} (g : Shows t a.at y b) where
+        pub label_bad : None ≡ code (label_kind (token_of t y)) → RefusedAt t (BadToken y.start) y.line
+        label_bad q =
+            let b : keyword (label_kind (token_of t y)) s.depth (token_of t x) (token_of t y) ≡ stop y.start = rw (code_none (label_kind (token_of t y)) q) in
             (refuse_token (reached_token {z = stop y.start} labelled_at g (allow_named s.depth (token_of t x) (token_of t y) ∙ b)) (omega (arith, g.whole.some, g.stands)) (length t), g.whole.lined)
 
-        pub label_begun : (c ≡ 0 → ⊥) → Begun t w n s (record { kind = c; at = x.start; label = x.stop - x.start; from = b })
-        label_begun nz =
+        pub label_begun : {c : told.Kind} → Some c ≡ code (label_kind (token_of t y)) → Begun t w n s (record { kind = c; at = x.start; label = x.stop - x.start; from = b })
+        label_begun {c} q =
             by_option (label_kind (token_of t y))
             (λ k e.
             let z = go (math k x.start (token_of t x).bytes []) s.depth [] in
@@ -193,7 +190,7 @@ module _ {t w : List ℕ} {n : ℕ} {s : State} (h : Held t w n s) where
               deep = h.deep;
               kind = k;
               name = (token_of t x).bytes;
-              code = q ∙ ap code e;
+              code = some_apart (q ∙ ap code e);
               label = sym (span_length p);
               bears = λ _. stands_span p.whole;
               reached = rw append-nil at (reached_least {b = s.rows + s.items + s.maths + 1} (omega arith) (reached_token {z = z} labelled_at g (allow_named s.depth (token_of t x) (token_of t y) ∙ b)));
@@ -204,10 +201,4 @@ module _ {t w : List ℕ} {n : ℕ} {s : State} (h : Held t w n s) where
               at = omega (arith, p.whole.some, p.whole.within);
               size = omega (arith, p.whole.within);
             })
-            (λ e. absurd (nz (q ∙ ap code e)))
-
--- reading an item is taking it
-pub taken : (t w v : List ℕ) (n at : ℕ) (r : Turn) → Turned t v n at r → Taken t w v n at r
-taken t w v n at (turn.Next s) h = h
-taken t w v n at (turn.Refused x l) h = h
-taken t w v n at turn.End h = absurd h
+            (λ e. absurd (some_none (q ∙ ap code e)))

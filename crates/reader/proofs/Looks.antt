@@ -1,6 +1,7 @@
 -- What looking for the next token answers: a token that shows, a comment that is passed, or one that is refused.
 -- A comment is refused by what is visible in it: the grammar stops at the first token that may not stand there, or 4 is earlier.
 use mathlib.Core.Path.{◌≡◌, refl, sym, ap, ◌∙◌}
+use Rattle.std.specs.Prelude.{Option, Some, Result, Ok, Err}
 use mathlib.Core.Bool.{true, false}
 use mathlib.Core.List.{List, [], ◌∷◌, ◌++◌, append-nil}
 use Prim.Native.Nat.{ℕ, ◌<◌, ◌≤◌}
@@ -14,6 +15,7 @@ use Rattle.paper.specs.Comments.{Place, outside, inside, bracketed, visible}
 use Rattle.paper.specs.Statements.{Item}
 use Rattle.paper.specs.Reader.{Mode, go, stop, with_items, many, refused, ending}
 use Rattle.paper.specs.declared.Refusal.{Refusal}
+use Rattle.paper.specs.declared.Refused.{Refused}
 use Rattle.paper.specs.declared.Refusal.TheVariants.{OpenComment, BadToken}
 use Rattle.paper.proofs.Tests.{split, clash}
 use Rattle.paper.proofs.Keys.{math_no_key}
@@ -21,26 +23,22 @@ use Rattle.paper.proofs.Allowed.{bracket_stops}
 use Rattle.paper.proofs.Comments.{visible_append}
 use Rattle.token.proofs.Words.{tokens_end}
 use Rattle.token.proofs.Read.{read_token}
-use Rattle.token.specs.Words.{tokens_from, token_of, next_of, Read}
+use Rattle.token.specs.Words.{tokens_from, token_of, next_of, Spans, Read}
 use Rattle.token.specs.declared.cursor.Span.{Span}
 use Rattle.token.specs.declared.cursor.Cursor.{Cursor}
-use Rattle.token.specs.declared.cursor.Next.{Next}
-use Rattle.token.specs.declared.cursor.Next.TheVariants as next
 use Rattle.reader.specs.declared.comment.Comment.TheVariants as comment
-use Rattle.reader.specs.declared.comment.Look.TheVariants as look
-use Rattle.reader.specs.declared.comment.Visible.{Visible}
-use Rattle.reader.specs.declared.comment.Visible.TheVariants as vis
-use Rattle.reader.specs.Passed.{Passed, Commented, Shows, spoilt, Refuses, Looked, Seen}
-use Rattle.reader.proofs.Passes.{passed_none, passed_then, passed_end, passed_few, pass_open, pass_shown, token_less}
+use Rattle.reader.specs.Passed.{Passed, Commented, Shows, spoilt, Refuses, Skipped, Seen}
+use Rattle.reader.proofs.Passes.{passed_then, passed_few, pass_open, pass_shown, token_less}
 use Rattle.reader.proofs.After.{earlier_token}
 use Rattle.reader.proofs.Grammar.{many_stop, reached_run, whole_on, to_end}
 
 -- ---- an answer that is a token
-pub took : {t : List ℕ} {i : ℕ} {x : Span} {c : Cursor} {a : Next} → a ≡ next.Token x c → a ≡ next_of t (tokens_from t i) → Read t i x c
-took {t} {i} {x} {c} e h = read_token t i x c (sym e ∙ h)
+pub took : {t : List ℕ} {i : ℕ} {p : Span × Cursor} {a : Option (Span × Cursor)} → a ≡ Some p → a ≡ next_of t (tokens_from t i) → Read t i p.0 p.1
+took {t} {i} {p} e h = read_token t i p.0 p.1 (sym e ∙ h)
 
-pub shown : {t : List ℕ} {i : ℕ} {x : Span} {c : Cursor} {a : Visible} → a ≡ vis.Token x c → Seen t i a → Shows t i x c
-shown e h = rw e at h
+pub shown : {t : List ℕ} {i : ℕ} {p : Span × Cursor} {o : Option (Span × Cursor)} {a : Result (Option (Span × Cursor)) Refused}
+    → a ≡ Ok o → o ≡ Some p → Seen t i a → Shows t i p.0 p.1
+shown e f h = rw (e, f) at h
 
 -- ---- what may not stand in a comment
 many_bad : (y : Token) (l : List Token) (m : Mode) (d : ℕ) (j : List Item) → bracketed y.bytes ≡ true → many (y ∷ l) (go m d j) ≡ stop y.at
@@ -73,7 +71,7 @@ visible_on {t} {i} {e} x =
     ∙ visible_append x.pre (tokens_from t e) outside
     ∙ rw (x.shows, x.place)
 
--- ---- the first token from i on, by whether it begins a comment
+-- ---- the first token from i on, which begins no comment
 module _ {t : List ℕ} {i : ℕ} {x : Span} {c : Cursor} (r : Read t i x c) where
   pub look_plain : key 40 (token_of t x) ≡ false → Shows t i x c
   look_plain e = record { passed = rw r.stands (pass_shown i r.skip r.whole e); onward = r.from; whole = r.whole; stands = r.stands; lined = r.lined }
@@ -81,50 +79,46 @@ module _ {t : List ℕ} {i : ℕ} {x : Span} {c : Cursor} (r : Read t i x c) whe
   pub look_math : 3 ≤ x.least → Shows t i x c
   look_math h = look_plain (math_no_key 40 (token_of t x) (sym r.whole.math ∙ le-leb 3 x.least h))
 
-  opened : key 40 (token_of t x) ≡ true → Passed t i c.at outside [] (inside x.start)
-  opened e = rw r.stands (pass_open i r.skip r.whole e)
+-- ---- a token that begins one
+module _ {t : List ℕ} {x : Span} (c : Cursor) (h : Spans t x) (o : key 40 (token_of t x) ≡ true) (s : c.at ≡ x.stop) where
+  opened : Passed t x.start c.at outside [] (inside x.start)
+  opened = rw s (pass_open x.start refl h o)
 
-  less : length (tokens_from t c.at) < length (tokens_from t i)
-  less = rw r.stands (token_less i r.skip r.whole)
-
-  pub look_past : key 40 (token_of t x) ≡ true → (a : Cursor) → Commented t c.at (comment.Closed a) → Looked t i (look.Past a)
-  look_past e a h = (
-    passed_then (opened e) (h.0 x.start),
-    omega (arith, passed_few (h.0 x.start), less),
-    omega (arith, h.1, r.from, r.whole.some, r.stands),
-    h.2,
+  pub skip_closed : {a : Cursor} → Commented t c.at (comment.Closed a) → Skipped t x.start (Ok a)
+  skip_closed g = (
+    passed_then opened (g.0 x.start),
+    omega (arith, passed_few (g.0 x.start), ap (λ (k : ℕ). length (tokens_from t k)) s, token_less x.start refl h),
+    omega (arith, g.1, h.some, s),
+    g.2,
   )
 
   -- never closed
-  pub look_open : key 40 (token_of t x) ≡ true → Commented t c.at comment.Never → Looked t i (look.Refused (OpenComment x.start) x.line)
+  pub skip_open : Commented t c.at comment.Never → Skipped t x.start (Err (record { refusal = OpenComment x.start; line = x.line }))
   unfolding visible
-  look_open e h =
-      let u = h x.start in
-      let p = passed_then (opened e) u.passed in
+  skip_open g =
+      let u = g x.start in
+      let p = passed_then opened u.passed in
       record {
         items_are = λ {c = k} {d} {m} {j} g.
             to_end g p (length t)
-            ∙ open_first u.ms c.at x.start m d j (length t) (omega (arith, r.whole.some, r.stands)) u.bad u.later;
+            ∙ open_first u.ms c.at x.start m d j (length t) (omega (arith, h.some, s)) u.bad u.later;
         first = rw (visible_on p, tokens_end t, append-nil u.ms) (spoilt_all u.ms u.bad);
-        line = r.whole.lined;
+        line = h.lined;
       }
 
   -- closed, with a token that may not stand in it
-  pub look_bad : key 40 (token_of t x) ≡ true → (b : Cursor) → Commented t c.at (comment.Bad b) → Looked t i (look.Refused (BadToken b.at) b.line)
-  look_bad e b h =
-      let u = h.0 x.start in
-      let p = passed_then (opened e) u.passed in
+  pub skip_bad : {b : Cursor} → Commented t c.at (comment.Bad b) → Skipped t x.start (Err (record { refusal = BadToken b.at; line = b.line }))
+  skip_bad {b} g =
+      let u = g.0 x.start in
+      let p = passed_then opened u.passed in
       record {
         items_are = λ {c = k} {d} {m} {j} g.
             whole_on g p (length t)
             ∙ rw (many_bad u.token [] m d j u.bad, many_stop (visible (tokens_from t u.stop) (inside x.start)) u.token.at, u.closes, u.at)
             (ap refused (earlier_token t b.at u.shut u.before));
         first = rw (visible_on p) u.bad;
-        line = h.1;
+        line = g.1;
       }
-
-pub look_done : {t : List ℕ} {i : ℕ} → tokens_from t i ≡ [] → Looked t i look.End
-look_done {t} {i} z = passed_end (passed_none t i outside) z
 
 -- one comment after another before it
 pub refuses_after : {t : List ℕ} {i e : ℕ} {x : Refusal} {l : ℕ} → Passed t i e outside [] outside → Refuses t e x l → Refuses t i x l

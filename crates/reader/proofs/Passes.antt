@@ -24,9 +24,12 @@ tokens_white t s l h e =
     ∙ ap (tokens_from t) (sym (rw q at (gap_step t (s - 1) (omega arith) e)))
     ∙ sym (tokens_skip t s)
 
-pub passed_none : (t : List ℕ) (i : ℕ) (p : Place) → Passed t i i p [] p
+pub passed_gap : {t : List ℕ} {i e : ℕ} (p : Place) → tokens_from t i ≡ tokens_from t e → Passed t i e p [] p
 unfolding after visible
-passed_none t i p = record { pre = []; split = refl; shows = refl; place = refl }
+passed_gap p s = record { pre = []; split = s; shows = refl; place = refl }
+
+pub passed_none : (t : List ℕ) (i : ℕ) (p : Place) → Passed t i i p [] p
+passed_none t i p = passed_gap p refl
 
 pub passed_then : {t : List ℕ} {i e f : ℕ} {p q r : Place} {ms ns : List Token} → Passed t i e p ms q → Passed t e f q ns r → Passed t i f p (ms ++ ns) r
 passed_then {t} {i} {e} {f} {p} {q} {r} {ms} {ns} x y =

@@ -9,7 +9,7 @@ use native.Mathlib.Omega.{arith}
 use lib.Dec.{leb, ltb}
 use lib.ListN.{length, get_or, take, drop, set, length-append, length-drop, length-set, get_or-append}
 use lib.Seq.{get_or_at, length-take-le}
-use borrow.Author.Tests.{le-leb, lt-leb, leb-true, ltb-true, ltb-false}
+use borrow.Author.Tests.{le-leb, leb-true, ltb-true, ltb-false}
 use Rattle.paper.specs.Base.{and, all}
 use Rattle.paper.specs.Tokens.{math_token}
 use Rattle.paper.specs.Comments.{outside}
@@ -23,9 +23,7 @@ use Rattle.token.specs.declared.cursor.Cursor.{Cursor}
 use Rattle.reader.specs.Rows.{Stands}
 use Rattle.reader.specs.Passed.{Shows}
 use Rattle.reader.specs.Hops.{Hopped}
-use Rattle.reader.specs.Runs.{RunRoom, Running, Stretched, Proving, math_next}
-use Rattle.reader.specs.declared.comment.Visible.{Visible}
-use Rattle.reader.specs.declared.comment.Visible.TheVariants as vis
+use Rattle.reader.specs.Runs.{RunRoom, Running, Stretched, Proving}
 use Rattle.reader.proofs.Dollars.{and_both}
 use Rattle.reader.proofs.Passes.{passed_none, passed_then, passed_few, shows_gap, shows_within}
 
@@ -165,22 +163,3 @@ proving_on {t} {at} {stop} {s} h y =
       some = sym (le-leb 1 (length (h.ps ++ y.ps)) (omega (arith, length-append h.ps y.ps, leb-true 1 (length h.ps) (sym h.some))));
       maths = all_join math_token h.ps y.ps h.maths y.maths;
     }
-
--- ---- what ends a run: no token, no math token, or enough of them
-pub not_token : (t : List ℕ) (v : Visible) → ((x : Span) (c : Cursor) → v ≡ vis.Token x c → ⊥) → math_next t v ≡ false
-not_token t (vis.Token x c) h = absurd (h x c refl)
-not_token t (vis.Refused p l) h = refl
-not_token t vis.End h = refl
-
-pub not_math : {t : List ℕ} {stop : ℕ} {x : Span} {c : Cursor} → Shows t stop x c → x.least < 3 → math_token (token_of t x) ≡ false
-not_math {t} {stop} {x} s l = sym s.whole.math ∙ lt-leb 3 x.least l
-
-pub not_taken : {t : List ℕ} {stop : ℕ} {x : Span} {c : Cursor} (b : Bool) → Shows t stop x c → and (leb 3 x.least) b ≡ false → and (math_token (token_of t x)) b ≡ false
-not_taken b s e = rw (← s.whole.math) e
-
-pub and_left : (a b : Bool) → a ≡ false → and a b ≡ false
-and_left a b e = rw e
-
-pub and_right : (a b : Bool) → b ≡ false → and a b ≡ false
-and_right true b e = e
-and_right false b e = refl

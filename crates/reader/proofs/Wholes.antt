@@ -6,15 +6,14 @@ use Prim.Native.Nat.{ℕ, zero, suc, ◌+◌, ◌*◌, ◌<◌, ◌≤◌}
 use native.Mathlib.Nat.{not-suc-le-zero, le_of_suc-le-suc}
 use native.Mathlib.Omega.{arith}
 use lib.Dec.{ltb}
-use lib.ListN.{length, take, replicate, length-append}
+use lib.ListN.{length, take, length-append}
 use borrow.Author.Tests.{ltb-true, ltb-false}
 use Rattle.paper.specs.Base.{gather}
 use Rattle.paper.specs.Tokens.{Token, tokens}
 use Rattle.paper.specs.Comments.{outside}
 use Rattle.paper.specs.Statements.{Statement, Item, opens, closes, states, ended, ends}
 use Rattle.paper.specs.Reader.{start, refused, finish, with_ends, items}
-use Rattle.paper.specs.declared.Reading.TheVariants.{Read, Unread}
-use Rattle.paper.specs.declared.Refusal.{Refusal}
+use Rattle.std.specs.Prelude.{Ok}
 use Rattle.paper.specs.declared.Refusal.TheVariants.{OpenText}
 use Rattle.paper.proofs.Tests.{split}
 use Rattle.area.specs.Cells.{statement_cell, bucket_cell, math_cell, word, Cleared}
@@ -23,9 +22,7 @@ use Rattle.reader.specs.Passed.{Passed, RefusedAt}
 use Rattle.reader.specs.Kept.{stated, Row, Words}
 use Rattle.reader.specs.Held.{Held}
 use Rattle.reader.specs.Ends.{EndsRoom, Ended}
-use Rattle.reader.specs.Whole.{Finished, AllRead, Answers}
-use Rattle.reader.specs.declared.whole.All.{All}
-use Rattle.reader.specs.declared.whole.All.TheVariants as every
+use Rattle.reader.specs.Whole.{Finished, Answers}
 use Rattle.token.specs.declared.cursor.Cursor.{Cursor}
 use Rattle.reader.specs.declared.state.State.{State}
 use Rattle.token.proofs.Counts.{few_tokens}
@@ -58,9 +55,6 @@ module _ {t w : List ℕ} {n : ℕ} {s : State} (h : Held t w n s) (p : Passed t
         maths = omega (arith, x.size);
         items_few = omega (arith, x.size);
       }
-
-pub done : {t v : List ℕ} {n : ℕ} {s : State} {a : All} → a ≡ every.Done s → AllRead t v n a → Finished t v n s
-done e h = rw e at h
 
 -- ---- the statements with their ends are those without, but for their ends
 ends_count : (i : List Item) (l : List ℕ) → length (ends i l) ≡ length (stated i)
@@ -195,9 +189,5 @@ module _ {t w : List ℕ} {n : ℕ} {s : State} (f : Finished t w n s) where
           buckets = buckets;
         }
 
-    pub text_read : (m : ℕ) → length v ≡ m → Answers t v m (with_ends (items (tokens t) (length t))) (Read s.rows s.maths)
+    pub text_read : (m : ℕ) → length v ≡ m → Answers t v m (with_ends (items (tokens t) (length t))) (Ok (record { rows = s.rows; maths = s.maths }))
     text_read m l = rw f.outcome (rw (all_maths, count), rw (← f.words.size) rows_read, l)
-
-pub text_refused : (t : List ℕ) {v : List ℕ} (m : ℕ) → v ≡ replicate m 0 → (x : Refusal) (l : ℕ) → RefusedAt t x l
-    → Answers t v m (with_ends (items (tokens t) (length t))) (Unread x l)
-text_refused t {v} m z x l e = rw (e.0, e.1) (refl, z)

@@ -2,6 +2,7 @@
 -- white space or the end of the text. From `$` to `$`, no other byte of a comment matters.
 use Rattle.std.specs.Prelude.{◌≡◌, ◌≢◌, Bool, true, false, List, [], ◌∷◌, ℕ, suc, ◌+◌, ◌-◌, ◌<◌, ◌≤◌, eqb, length, get_or, drop}
 use Rattle.std.proofs.Math.Option.{Option, none, some}
+use Rattle.std.specs.Prelude as code
 use Rattle.paper.specs.Base.{choose, and}
 use Rattle.paper.specs.Bytes.{white}
 use Rattle.paper.specs.Comments.{bracket_first}
@@ -50,12 +51,20 @@ pub record Dollar (t : List ℕ) (i k : ℕ) : Type 0 where
   pub plain : (j : ℕ) → i ≤ j → j < k → get_or t j 0 ≢ 36
   pub here : k < length t → get_or t k 0 ≡ 36
 
+abbrev pub NextDollar : List ℕ → ℕ → code.Option ℕ → Type 0
+NextDollar t i (code.Some k) = Dollar t i k × (k < length t)
+NextDollar t i code.None = Dollar t i (length t)
+
 -- the first `$(` or `$)` from i on, or the end
 pub record Mark (t : List ℕ) (i k : ℕ) : Type 0 where
   pub from : i ≤ k
   pub within : k ≤ length t
   pub plain : (j : ℕ) → i ≤ j → j < k → mark_first (drop j t) ≡ false
   pub here : k < length t → mark_first (drop k t) ≡ true
+
+abbrev pub NextMark : List ℕ → ℕ → code.Option ℕ → Type 0
+NextMark t i (code.Some k) = Mark t i k × (k < length t)
+NextMark t i code.None = Mark t i (length t)
 
 -- the place after the last white space from i up to k, or i
 pub record Begins (t : List ℕ) (i k s : ℕ) : Type 0 where

@@ -1,18 +1,18 @@
 -- What is known between two items of a text, and what reading the next one promises.
 -- `t` is the text, `w` and `v` the words before and after, `n` is N + 1.
-use Rattle.std.specs.Prelude.{◌≡◌, true, List, [], ℕ, ◌+◌, ◌<◌, ◌≤◌, length}
+use Rattle.std.specs.Prelude.{◌≡◌, true, Option, Some, None, Result, Ok, Err, List, [], ℕ, ◌+◌, ◌<◌, ◌≤◌, length}
 use Rattle.paper.specs.Comments.{outside}
 use Rattle.paper.specs.Statements.{Kind, $p, labelled, Item}
 use Rattle.paper.specs.Reader.{start, math, proof, go}
+use Rattle.paper.specs.declared.Refused.{Refused}
 use Rattle.token.specs.Words.{tokens_from, Lined}
-use Rattle.reader.specs.Rows.{kind_number, Stands}
+use Rattle.reader.specs.Rows.{Stands}
+use Rattle.reader.specs.Kinds.{kind_of}
 use Rattle.reader.specs.Passed.{Passed, Gap, Reached, RefusedAt}
 use Rattle.reader.specs.Runs.{Running}
 use Rattle.reader.specs.Kept.{Words}
 use Rattle.reader.specs.declared.state.State.{State}
 use Rattle.reader.specs.declared.state.Head.{Head}
-use Rattle.reader.specs.declared.state.Turn.{Turn}
-use Rattle.reader.specs.declared.state.Turn.TheVariants as turn
 
 -- between two items
 pub record Held (t w : List ℕ) (n : ℕ) (s : State) : Type 0 where
@@ -29,7 +29,7 @@ pub record Begun (t w : List ℕ) (n : ℕ) (s : State) (h : Head) : Type 0 wher
   pub deep : s.depth ≤ s.items
   pub kind : Kind
   pub name : List ℕ
-  pub code : h.kind ≡ kind_number kind
+  pub code : h.kind ≡ kind_of kind
   pub label : h.label ≡ length name
   pub bears : labelled kind ≡ true → Stands t (record { at = h.at; bytes = name })
   pub reached : Reached t h.from.at (s.rows + s.items + s.maths + 1) (go (math kind h.at name []) s.depth found)
@@ -52,13 +52,12 @@ pub record Stated (t u : List ℕ) (n : ℕ) (s : State) (h : Head) (to count at
   pub less : length (tokens_from t at) < length (tokens_from t s.cursor.at)
 
 -- what reading an item that begins at `at` or later promises
-abbrev pub Turned : List ℕ → List ℕ → ℕ → ℕ → Turn → Type 0
-Turned t v n at (turn.Next s) = Held t v n s × (length (tokens_from t s.cursor.at) < length (tokens_from t at))
-Turned t v n at (turn.Refused x l) = RefusedAt t x l
-Turned t v n at turn.End = ⊥
+abbrev pub Turned : List ℕ → List ℕ → ℕ → ℕ → Result State Refused → Type 0
+Turned t v n at (Ok s) = Held t v n s × (length (tokens_from t s.cursor.at) < length (tokens_from t at))
+Turned t v n at (Err r) = RefusedAt t r.refusal r.line
 
 -- and what looking for one promises
-abbrev pub Taken : List ℕ → List ℕ → List ℕ → ℕ → ℕ → Turn → Type 0
-Taken t w v n at (turn.Next s) = Held t v n s × (length (tokens_from t s.cursor.at) < length (tokens_from t at))
-Taken t w v n at (turn.Refused x l) = RefusedAt t x l
-Taken t w v n at turn.End = Passed t at (length t) outside [] outside × (v ≡ w)
+abbrev pub Taken : List ℕ → List ℕ → List ℕ → ℕ → ℕ → Result (Option State) Refused → Type 0
+Taken t w v n at (Ok (Some s)) = Held t v n s × (length (tokens_from t s.cursor.at) < length (tokens_from t at))
+Taken t w v n at (Ok None) = Passed t at (length t) outside [] outside × (v ≡ w)
+Taken t w v n at (Err r) = RefusedAt t r.refusal r.line

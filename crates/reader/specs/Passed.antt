@@ -1,6 +1,6 @@
 -- What is passed between two offsets of a text: the tokens outside comments, and the place of comments before and after.
 -- Each answer of the functions that look for tokens says what was passed.
-use Rattle.std.specs.Prelude.{◌≡◌, Bool, true, List, [], ◌∷◌, ◌++◌, ℕ, ◌<◌, ◌≤◌, leb, length, get_or}
+use Rattle.std.specs.Prelude.{◌≡◌, Bool, true, Option, Some, None, Result, Ok, Err, List, [], ◌∷◌, ◌++◌, ℕ, ◌<◌, ◌≤◌, leb, length, get_or}
 use Rattle.paper.specs.Base.{all}
 use Rattle.paper.specs.Bytes.{white}
 use Rattle.paper.specs.Tokens.{Token, tokens}
@@ -9,15 +9,12 @@ use Rattle.paper.specs.Statements.{Item}
 use Rattle.paper.specs.Reader.{Mode, start, Step, go, many, refused, items}
 use Rattle.paper.specs.Answer.{refusal_line}
 use Rattle.paper.specs.declared.Refusal.{Refusal}
+use Rattle.paper.specs.declared.Refused.{Refused}
 use Rattle.token.specs.Words.{tokens_from, token_of, Lined, Spans}
 use Rattle.token.specs.declared.cursor.Span.{Span}
 use Rattle.token.specs.declared.cursor.Cursor.{Cursor}
 use Rattle.reader.specs.declared.comment.Comment.{Comment}
 use Rattle.reader.specs.declared.comment.Comment.TheVariants as comment
-use Rattle.reader.specs.declared.comment.Look.{Look}
-use Rattle.reader.specs.declared.comment.Look.TheVariants as look
-use Rattle.reader.specs.declared.comment.Visible.{Visible}
-use Rattle.reader.specs.declared.comment.Visible.TheVariants as vis
 
 -- from offset i to offset e stand the visible tokens ms; the place of comments goes from p to q
 pub record Passed (t : List ℕ) (i e : ℕ) (p : Place) (ms : List Token) (q : Place) : Type 0 where
@@ -83,13 +80,13 @@ pub record Refuses (t : List ℕ) (i : ℕ) (x : Refusal) (l : ℕ) : Type 0 whe
   pub first : spoilt (visible (tokens_from t i) outside) ≡ true
   pub line : l ≡ refusal_line t x
 
-abbrev pub Looked : List ℕ → ℕ → Look → Type 0
-Looked t i (look.Token x c) = Shows t i x c
-Looked t i (look.Past c) = Passed t i c.at outside [] outside × (length (tokens_from t c.at) < length (tokens_from t i)) × (i ≤ c.at) × Lined t c
-Looked t i (look.Refused x l) = Refuses t i x l
-Looked t i look.End = Passed t i (length t) outside [] outside
+-- a comment that begins at i is passed
+abbrev pub Skipped : List ℕ → ℕ → Result Cursor Refused → Type 0
+Skipped t i (Ok c) = Passed t i c.at outside [] outside × (length (tokens_from t c.at) < length (tokens_from t i)) × (i ≤ c.at) × Lined t c
+Skipped t i (Err r) = Refuses t i r.refusal r.line
 
-abbrev pub Seen : List ℕ → ℕ → Visible → Type 0
-Seen t i (vis.Token x c) = Shows t i x c
-Seen t i (vis.Refused x l) = Refuses t i x l
-Seen t i vis.End = Passed t i (length t) outside [] outside
+-- what stands next outside comments, from i on
+abbrev pub Seen : List ℕ → ℕ → Result (Option (Span × Cursor)) Refused → Type 0
+Seen t i (Ok (Some p)) = Shows t i p.0 p.1
+Seen t i (Ok None) = Passed t i (length t) outside [] outside
+Seen t i (Err r) = Refuses t i r.refusal r.line

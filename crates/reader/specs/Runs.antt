@@ -1,22 +1,20 @@
 -- Runs of math tokens: what is asked, what is known while one is read, what it promises; and how a run closes.
 -- `t` is the text, `w` and `v` the words before and after, `n` is N + 1.
-use Rattle.std.specs.Prelude.{◌≡◌, Bool, true, false, List, ℕ, ◌+◌, ◌*◌, ◌<◌, ◌≤◌, leb, ltb, length, get_or}
+use Rattle.std.specs.Prelude.{◌≡◌, Bool, true, false, Option, Some, None, Result, Ok, Err, List, ℕ, ◌+◌, ◌*◌, ◌<◌, ◌≤◌, leb, ltb, length, get_or}
 use Rattle.paper.specs.Base.{choose, and, sameb, all}
 use Rattle.paper.specs.Tokens.{Token, math_token}
 use Rattle.paper.specs.Comments.{outside}
 use Rattle.paper.specs.Checks.{no_token}
 use Rattle.paper.specs.declared.Refusal.TheVariants.{BadToken, OpenText}
+use Rattle.paper.specs.declared.Refused.{Refused}
 use Rattle.area.specs.Cells.{math_cell, word, Only}
 use Rattle.token.specs.Words.{tokens_from, token_of, Lined}
+use Rattle.token.specs.declared.cursor.Span.{Span}
 use Rattle.token.specs.declared.cursor.Cursor.{Cursor}
 use Rattle.reader.specs.Rows.{Stands}
 use Rattle.reader.specs.Passed.{Passed, Gap, Seen}
-use Rattle.reader.specs.declared.comment.Visible.{Visible}
-use Rattle.reader.specs.declared.comment.Visible.TheVariants as vis
 use Rattle.reader.specs.declared.run.Run.{Run}
 use Rattle.reader.specs.declared.run.Stretch.{Stretch}
-use Rattle.reader.specs.declared.run.Closing.{Closing}
-use Rattle.reader.specs.declared.run.Closing.TheVariants as closing
 
 -- what a run asks: the tokens left fit the math column from `first` on
 pub record RunRoom (t w : List ℕ) (n at first : ℕ) : Type 0 where
@@ -50,10 +48,10 @@ pub record Stretched (t w v : List ℕ) (n most first : ℕ) (c : Cursor) (count
   pub less : length (tokens_from t r.stop.at) ≤ length (tokens_from t c.at)
 
 -- whether a math token stands next
-abbrev pub math_next : List ℕ → Visible → Bool
-math_next t (vis.Token x c) = math_token (token_of t x)
-math_next t (vis.Refused p l) = false
-math_next t vis.End = false
+abbrev pub math_next : List ℕ → Result (Option (Span × Cursor)) Refused → Bool
+math_next t (Ok (Some p)) = math_token (token_of t p.0)
+math_next t (Ok None) = false
+math_next t (Err r) = false
 
 pub record Ran (t w v : List ℕ) (n at most first : ℕ) (r : Run) : Type 0 where
   pub run : Running t w v n at most first r.stop.at r.count
@@ -72,8 +70,8 @@ pub record Proved (t : List ℕ) (at : ℕ) (r : Run) : Type 0 where
   pub after : Seen t r.stop.at r.after
   pub ends : math_next t r.after ≡ false
 
-abbrev pub closing_of : List ℕ → Visible → ℕ → ℕ → List ℕ → Closing
-closing_of t (vis.Token x c) count least key =
-    choose (and (sameb (token_of t x).bytes key) (leb least count)) (closing.At c) (closing.Refused (BadToken x.start) x.line)
-closing_of t (vis.Refused r l) count least key = closing.Refused r l
-closing_of t vis.End count least key = closing.Refused (OpenText (length t)) 0
+abbrev pub closing_of : List ℕ → Result (Option (Span × Cursor)) Refused → ℕ → ℕ → List ℕ → Result Cursor Refused
+closing_of t (Ok (Some p)) count least key =
+    choose (and (sameb (token_of t p.0).bytes key) (leb least count)) (Ok p.1) (Err (record { refusal = BadToken p.0.start; line = p.0.line }))
+closing_of t (Ok None) count least key = Err (record { refusal = OpenText (length t); line = 0 })
+closing_of t (Err r) count least key = Err r

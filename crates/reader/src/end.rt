@@ -22,40 +22,31 @@ pub fn top_end(work: &[u32], n: usize, depth: usize) -> u32
     if depth == 0 {
         return NO_END;
     }
-    let cell = 8 * n + (depth - 1);
-    work[cell]
+    work[8 * n + (depth - 1)]
 }
 
 /// One item back.
-pub fn step_back(work: &mut [u32], n: usize, item: usize, row: usize, depth: usize) -> Back
-    requires { BackRoom work.old n item row depth }
-    ensures { (work.new ≡ back_words work.old n (word work.old (bucket_cell n item)) row depth) × (result ≡ back_state (word work.old (bucket_cell n item)) row depth) }
+pub fn step_back(work: &mut [u32], n: usize, item: usize, b: Back) -> Back
+    requires { BackRoom work.old n item b.row b.depth }
+    ensures { (work.new ≡ back_words work.old n (word work.old (bucket_cell n item)) b.row b.depth) × (result ≡ back_state (word work.old (bucket_cell n item)) b.row b.depth) }
 {
-    let cell = bucket(n, item);
-    let e = work[cell];
-    if e == 0 {
-        let end = top_end(work, n, depth);
-        let here = statement(row - 1, END);
-        work[here] = end;
-        return Back {
-            row: row - 1,
-            depth: depth,
-        };
-    }
-    if e == 1 {
-        if depth == 0 {
-            return Back { row: row, depth: 0 };
+    match work[bucket(n, item)] {
+        0 => {
+            let row = b.row - 1;
+            work[statement(row, END)] = top_end(work, n, b.depth);
+            Back { row, ..b }
         }
-        return Back {
-            row: row,
-            depth: depth - 1,
-        };
-    }
-    let push = 8 * n + depth;
-    work[push] = e - 2;
-    Back {
-        row: row,
-        depth: depth + 1,
+        1 => Back {
+            depth: b.depth.saturating_sub(1),
+            ..b
+        },
+        e => {
+            work[8 * n + b.depth] = e - 2;
+            Back {
+                depth: b.depth + 1,
+                ..b
+            }
+        }
     }
 }
 
@@ -64,13 +55,11 @@ pub fn set_ends(work: &mut [u32], n: usize, rows: usize, items: usize)
     requires { EndsRoom work.old n rows items }
     ensures { Ended work.old work.new n rows items }
 {
-    let mut j = items;
-    let mut row = rows;
-    let mut depth: usize = 0;
-    while 0 < j {
-        let b = step_back(work, n, j - 1, row, depth);
-        j -= 1;
-        row = b.row;
-        depth = b.depth;
+    let mut b = Back {
+        row: rows,
+        depth: 0,
+    };
+    for j in (0..items).rev() {
+        b = step_back(work, n, j, b);
     }
 }

@@ -5,7 +5,7 @@
 
 ghost use Rattle.std.specs.Prelude.{◌≤◌, ◌<◌, length};
 
-use paper::{Reading, Refusal};
+use paper::{Refused, Statements};
 use std::fs::File;
 use std::os::fd::AsRawFd;
 use stream::walk::u16_at;
@@ -14,20 +14,6 @@ fn write_two(a: u64, b: u64) {
     io::print_decimal(1, a);
     io::write_all(1, b" ");
     io::print_decimal(1, b);
-}
-
-fn write_refusal(x: Refusal) {
-    match x {
-        Refusal::LongText => write_two(1, 0),
-        Refusal::ShortWork(p) => write_two(2, p),
-        Refusal::BadByte(p) => write_two(3, p),
-        Refusal::OpenComment(p) => write_two(4, p),
-        Refusal::BadToken(p) => write_two(5, p),
-        Refusal::OpenText(p) => write_two(6, p),
-        Refusal::ManyVariables(p) => write_two(7, p),
-        Refusal::ShortFrames(p) => write_two(8, p),
-        Refusal::ShortDiags(p) => write_two(9, p),
-    }
 }
 
 fn write_word(cell: usize, word: u32) {
@@ -40,31 +26,29 @@ fn write_word(cell: usize, word: u32) {
 }
 
 fn write_words(work: &[u32]) {
-    let mut i: usize = 0;
-    while i < work.len() {
-        write_word(i, work[i]);
-        i += 1;
+    for (i, &word) in work.iter().enumerate() {
+        write_word(i, word);
     }
     io::write_all(1, b"\n");
 }
 
 fn read_over_zeros(text: &[u8], work: &mut [u32]) {
     area::clear(work);
-    reader::read(text, work);
+    let _ = reader::read(text, work);
 }
 
 // A text that is read is read again over zeros, so that no word is written but those that the reader leaves.
-fn write_answer(text: &[u8], work: &mut [u32], r: Reading) {
+fn write_answer(text: &[u8], work: &mut [u32], r: Result<Statements, Refused>) {
     match r {
-        Reading::Read(s, m) => {
+        Ok(s) => {
             io::write_all(1, b"read ");
-            write_two(s as u64, m as u64);
+            write_two(s.rows as u64, s.maths as u64);
             read_over_zeros(text, work);
         }
-        Reading::Unread(x, line) => {
-            write_refusal(x);
+        Err(r) => {
+            write_two(u64::from(r.refusal.number()), r.refusal.place());
             io::write_all(1, b" ");
-            io::print_decimal(1, line);
+            io::print_decimal(1, r.line);
         }
     }
 }

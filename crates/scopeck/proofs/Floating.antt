@@ -29,7 +29,7 @@ use Rattle.checks.proofs.Ones.{same_told}
 use Rattle.checks.proofs.OverRows.{seen_here}
 use Rattle.scopeck.specs.declared.Scope.{Scope}
 use Rattle.scopeck.specs.declared.Row.{Row}
-use Rattle.scopeck.specs.declared.Owner.TheVariants as own
+use Rattle.std.specs.Prelude as code
 use Rattle.scopeck.specs.Scope.{row_of, Owns, moved, Ready, GivesPart}
 use Rattle.scopeck.proofs.Numbers.{kind_f}
 use Rattle.scopeck.proofs.Ready.{apart_of, kind_of, row_room, here_of}
@@ -55,7 +55,7 @@ float_none l v z e = by_hyp (float_of v.hyps (token z 1).bytes) (if_none_none (t
     by_hyp none q = refl
     by_hyp (some h) q = let y : ◌≡◌ {A = ℕ} 0 1 = cc in absurd (omega arith)
 
-module _ {w out out' : List ℕ} {n : ℕ} {st : Scope} {k p c a : ℕ} {r : Row} {y : Atom} (e : r ≡ row_of w k) (kw : word w (statement_cell k 0) ≡ 4) (o : Owns w n r.label.0 r.at.0 (own.Own y))
+module _ {w out out' : List ℕ} {n : ℕ} {st : Scope} {k p c a : ℕ} {r : Row} {y : Atom} (e : r ≡ row_of w k) (kw : word w (statement_cell k 0) ≡ 4) (o : Owns w n r.label.0 r.at.0 (code.Some y))
     (ec : c ≡ word w (math_cell n r.first)) (ea : a ≡ word w (math_cell n (r.first + 1))) (x : Float w out out' n st.diags p c a r.at.0) where
   float_told : {t : List ℕ} {l : List Statement} (b : Ready t w n l st k) → Wrote out out' st.diags p (gather diag_record (check_float l (view_at l k) (stmt l k)))
   unfolding view_at

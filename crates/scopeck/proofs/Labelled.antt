@@ -35,8 +35,7 @@ use Rattle.checks.specs.Walks.{WalkEap}
 use Rattle.checks.proofs.Ones.{same_told}
 use Rattle.scopeck.specs.declared.Scope.{Scope}
 use Rattle.scopeck.specs.declared.Row.{Row}
-use Rattle.scopeck.specs.declared.Owner.{Owner}
-use Rattle.scopeck.specs.declared.Owner.TheVariants as own
+use Rattle.std.specs.Prelude as code
 use Rattle.scopeck.specs.Scope.{row_of, Borne, own_by, Owns, moved, with_essential, Ready, GivesPart}
 use Rattle.scopeck.proofs.Owners.{Bearer, bearer_of, owns_none, owns_some}
 use Rattle.scopeck.proofs.Numbers.{kind_e, kind_large}
@@ -63,16 +62,16 @@ module _ {w : List ℕ} {n : ℕ} {st : Scope} {k : ℕ} {r : Row} (e : r ≡ ro
         owned = rw row_label.name first.is;
       }
 
-  owner_is : {x : Owner} → Owns w n r.label.0 r.at.0 x → x ≡ own_by first.token.at (stmt l k).at r.label.0
+  owner_is : {x : code.Option Atom} → Owns w n r.label.0 r.at.0 x → x ≡ own_by first.token.at (stmt l k).at r.label.0
   owner_is o =
       o.is first.token b.named row_label.below (rw row_label.name first.is)
       ∙ ap (λ (i : ℕ). own_by first.token.at i r.label.0) (here_of b e).at
 
-  fails : Owns w n r.label.0 r.at.0 own.Nothing → length (check_label l (stmt l k)) ≢ 0
+  fails : Owns w n r.label.0 r.at.0 code.None → length (check_label l (stmt l k)) ≢ 0
   unfolding check_label
   fails o = rw first.is (owns_none first.token (stmt l k) r.label.0 (owner_is o))
 
-  pub owned : {x : Atom} → Owns w n r.label.0 r.at.0 (own.Own x) → check_label l (stmt l k) ≡ []
+  pub owned : {x : Atom} → Owns w n r.label.0 r.at.0 (code.Some x) → check_label l (stmt l k) ≡ []
   unfolding check_label
   owned o = rw first.is (owns_some first.token (stmt l k) r.label.0 (owner_is o))
 
@@ -96,7 +95,7 @@ unless_by l k $a e h n = given_by l k e ∙ unless_some (check_label l (stmt l k
 unless_by l k $p e h n = given_by l k e ∙ unless_some (check_label l (stmt l k)) _ n
 
 pub later_bearer : {w q out out' : List ℕ} {n : ℕ} {st s : Scope} {k p : ℕ} {r : Row} → r ≡ row_of w k → s ≡ moved st p → 4 ≤ word w (statement_cell k 0)
-    → Owns w n r.label.0 r.at.0 own.Nothing → Label w out out' n st.diags p r.label.0 r.at.0 → GivesPart w w q out out' n st s k
+    → Owns w n r.label.0 r.at.0 code.None → Label w out out' n st.diags p r.label.0 r.at.0 → GivesPart w w q out out' n st s k
 later_bearer {w} {n = n} {st} {k = k} e es kw o x =
     record {
       sim = λ {t} {l} b pq.
@@ -161,7 +160,7 @@ module _ {w out out' : List ℕ} {n : ℕ} {st : Scope} {k p : ℕ} {r : Row} (e
   eap_few : {t : List ℕ} {l : List Statement} (b : Ready t w n l st k) → p ≤ st.diags + 604000000
   eap_few b = let g = walk_of b e in omega (arith, x.few, g.atoms.rows, g.room.small)
 
-  pub essential_rejected : {q : List ℕ} {s : Scope} {a : Atom} → s ≡ moved st p → word w (statement_cell k 0) ≡ 5 → Owns w n r.label.0 r.at.0 (own.Own a) → p ≢ st.diags
+  pub essential_rejected : {q : List ℕ} {s : Scope} {a : Atom} → s ≡ moved st p → word w (statement_cell k 0) ≡ 5 → Owns w n r.label.0 r.at.0 (code.Some a) → p ≢ st.diags
       → GivesPart w w q out out' n st s k
   essential_rejected es kw o ne =
       record {
@@ -175,7 +174,7 @@ module _ {w out out' : List ℕ} {n : ℕ} {st : Scope} {k p : ℕ} {r : Row} (e
             (rejected b {d = d} (kept_none n 12 12 6 7 w) b.stands.marks (eap_checked l k (owned {st = st} e b lab o) ek ∙ accept_some d _ [] h) h (eap_few b) g);
       }
 
-  pub essential_accepted : {u q : List ℕ} {s : Scope} {a : Atom} → s ≡ with_essential st p → word w (statement_cell k 0) ≡ 5 → Owns w n r.label.0 r.at.0 (own.Own a)
+  pub essential_accepted : {u q : List ℕ} {s : Scope} {a : Atom} → s ≡ with_essential st p → word w (statement_cell k 0) ≡ 5 → Owns w n r.label.0 r.at.0 (code.Some a)
       → p ≡ st.diags → u ≡ set w (statement_cell st.es 10) k → GivesPart w u q out out' n st s k
   unfolding accepted
   essential_accepted {u} es kw o eq eu =
@@ -217,7 +216,7 @@ module _ {w out out' : List ℕ} {n : ℕ} {st : Scope} {k p : ℕ} {r : Row} (e
             });
       }
 
-  pub asserted : {q : List ℕ} {s : Scope} {a : Atom} → s ≡ moved st p → 6 ≤ word w (statement_cell k 0) → Owns w n r.label.0 r.at.0 (own.Own a) → GivesPart w w q out out' n st s k
+  pub asserted : {q : List ℕ} {s : Scope} {a : Atom} → s ≡ moved st p → 6 ≤ word w (statement_cell k 0) → Owns w n r.label.0 r.at.0 (code.Some a) → GivesPart w w q out out' n st s k
   asserted es kw o =
       record {
         sim = λ {t} {l} b pq.

@@ -21,9 +21,7 @@ use Rattle.paper.proofs.Alls.{All, all_first, all_rest}
 use Rattle.paper.proofs.Searches.{all_ungather, find_none}
 use Rattle.reader.specs.Rows.{stmt}
 use Rattle.nameck.specs.Lookups.{owner_answer, Owned}
-use Rattle.nameck.specs.declared.lookup.Owner.TheVariants as label
-use Rattle.scopeck.specs.declared.Owner.{Owner}
-use Rattle.scopeck.specs.declared.Owner.TheVariants as own
+use Rattle.std.specs.Prelude as code
 use Rattle.scopeck.specs.Scope.{Borne, own_by, Owns}
 
 -- ---- the first bearer of a label that is borne
@@ -51,32 +49,32 @@ bearer_of l k h e = by (owner l (stmt l k).label) refl
     by (some b) q = record { token = b; is = q }
 
 -- ---- what look-up answers
-pub not_nobody : {w : List ℕ} {n a : ℕ} → Borne w n a → Owned w n a label.Nobody → ⊥
+pub not_nobody : {w : List ℕ} {n a : ℕ} → Borne w n a → Owned w n a code.None → ⊥
 not_nobody h x =
-    let z : label.Nobody ≡ owner_answer (some h.first) = x.is h.named h.below ∙ ap owner_answer h.owned in
+    let z : code.None ≡ owner_answer (some h.first) = x.is h.named h.below ∙ ap owner_answer h.owned in
     let y : ◌≡◌ {A = ℕ} 0 1 = cc in
     omega (arith, y)
 
-pub owns_by : {w : List ℕ} {n a s : ℕ} {o : StatementOffset} {r : Owner} → Owned w n a (label.At o) → r ≡ own_by o.0 s a → Owns w n a s r
+pub owns_by : {w : List ℕ} {n a s : ℕ} {o : StatementOffset} {r : code.Option Atom} → Owned w n a (code.Some o) → r ≡ own_by o.0 s a → Owns w n a s r
 owns_by {a = a} {s} {o} x e =
     record {
       is = λ {t} {l} y h k q.
-          let z : label.At o ≡ label.At (record { 0 = y.at }) = x.is h k ∙ ap owner_answer q in
+          let z : code.Some o ≡ code.Some (record { 0 = y.at }) = x.is h k ∙ ap owner_answer q in
           let p : o ≡ record { 0 = y.at } = cc in
           e ∙ ap (λ (b : StatementOffset). own_by b.0 s a) p;
     }
 
 -- ---- by the first bearer b
-pub owns_none : (b : Token) (z : Statement) (a : ℕ) → own.Nothing ≡ own_by b.at z.at a → length (label_diags (some b) z) ≢ 0
+pub owns_none : (b : Token) (z : Statement) (a : ℕ) → code.None ≡ own_by b.at z.at a → length (label_diags (some b) z) ≢ 0
 owns_none b z a e =
     split (eqb b.at z.at) (λ q. absurd (no (rw q at e))) (λ q. rw q (λ i. omega (arith, i)))
   where
-    no : own.Nothing ≡ own.Own (record { 0 = a }) → ⊥
+    no : ◌≡◌ {A = code.Option Atom} code.None (code.Some (record { 0 = a })) → ⊥
     no e = let y : ◌≡◌ {A = ℕ} 0 1 = cc in omega (arith, y)
 
-pub owns_some : (b : Token) (z : Statement) (a : ℕ) {x : Atom} → own.Own x ≡ own_by b.at z.at a → label_diags (some b) z ≡ []
+pub owns_some : (b : Token) (z : Statement) (a : ℕ) {x : Atom} → code.Some x ≡ own_by b.at z.at a → label_diags (some b) z ≡ []
 owns_some b z a {x} e =
     split (eqb b.at z.at) (λ q. rw q) (λ q. absurd (no (rw q at e)))
   where
-    no : own.Own x ≡ own.Nothing → ⊥
+    no : ◌≡◌ {A = code.Option Atom} (code.Some x) code.None → ⊥
     no e = let y : ◌≡◌ {A = ℕ} 0 1 = cc in omega (arith, y)

@@ -1,6 +1,6 @@
 -- What the words and the text say of the statement in hand: its row, its tokens, and that it can be walked.
 -- Assumes nothing.
-use mathlib.Core.Path.{◌≡◌, refl, sym, ap, ◌∙◌}
+use mathlib.Core.Path.{◌≡◌, sym, ap, ◌∙◌}
 use mathlib.Core.Bool.{true}
 use mathlib.Core.List.{List, map}
 use Prim.Native.Nat.{ℕ, ◌+◌, ◌-◌, ◌*◌, ◌<◌, ◌≤◌, ◌^◌}
@@ -112,21 +112,27 @@ module _ {t w : List ℕ} {n : ℕ} {l : List Statement} {st : Scope} {k : ℕ} 
     pub can_label : labelled (stmt l k).kind ≡ true → Can w n st.diags r.label.0
     can_label h = rw e (record { room = b.room; atom = below_n (label_atomic h); place = omega (arith, small_place) })
 
+    row_from : r.from ≡ word w (statement_cell k 3)
+    row_from = ap (λ (y : Row). y.from) e
+
+    pub row_end : r.end ≡ (stmt l k).end
+    row_end = ap (λ (y : Row). y.end) e ∙ b.named.shape.end k b.inside
+
     -- ---- the part of the text
-    module _ {q : List ℕ} {f : ℕ} (p : q ≡ part_of t w k) (pf : f ≡ word w (statement_cell k 3)) where
-      part_math : (stmt l k).math ≡ map (move f) (visible_from q 0)
+    module _ {q : List ℕ} (p : q ≡ part_of t w k) where
+      part_math : (stmt l k).math ≡ map (move r.from) (visible_from q 0)
       unfolding part_of
-      part_math = rw (p, pf) (sym (b.named.shape.part k b.inside) ∙ math_part _ (word w (statement_cell k 3)))
+      part_math = rw (p, row_from) (sym (b.named.shape.part k b.inside) ∙ math_part _ (word w (statement_cell k 3)))
 
       part_count : length (visible_from q 0) ≡ length (stmt l k).math
-      part_count = sym (ap length part_math ∙ length-map (visible_from q 0) (move f))
+      part_count = sym (ap length part_math ∙ length-map (visible_from q 0) (move r.from))
 
       -- math tokens have no `$`
       part_plain : (i : ℕ) → i < length (visible_from q 0) → clean (get_or (visible_from q 0) i no_token) ≡ true
       unfolding math_token
       part_plain i h =
           let x = get_or (visible_from q 0) i no_token in
-          let e : token (stmt l k) i ≡ move f x = ap (λ (m : List Token). get_or m i no_token) part_math ∙ map_at f (visible_from q 0) i h in
+          let e : token (stmt l k) i ≡ move r.from x = ap (λ (m : List Token). get_or m i no_token) part_math ∙ map_at r.from (visible_from q 0) i h in
           let m : all math_byte x.bytes ≡ true = rw e at ((b.facts.shaped k b.inside).bytes i (omega (arith, part_count))) in
           split (bracketed x.bytes) (λ z. absurd (clash (sym m ∙ bracket_math x z))) (λ z. rw z)
 
@@ -140,7 +146,7 @@ module _ {t w : List ℕ} {n : ℕ} {l : List Statement} {st : Scope} {k : ℕ} 
       pub walk_eap : Walk w n st.diags r.first r.count × HasFloats w n r.first r.count × (length (visible_from q 0) ≡ r.count) × Calm q
       walk_eap = (walk_of, floats_of, part_counted, part_calm)
 
-      pub here_part : HerePart t w q n l k r.first f r.at.0
+      pub here_part : HerePart t w q n l k r.first r.from r.at.0
       here_part =
           let h = here_of in
           record {
@@ -156,14 +162,14 @@ module _ {t w : List ℕ} {n : ℕ} {l : List Statement} {st : Scope} {k : ℕ} 
             math = part_math;
           }
 
-      part_short : f + length q ≤ 16777216
+      part_short : r.from + length q ≤ 16777216
       unfolding part_of
       part_short =
           let a = b.named.shape.from_to k b.inside in
           let c = b.named.shape.within k b.inside in
-          rw (p, pf) (simp (length-take, length-drop) (omega (arith, a, c, b.named.shape.short)))
+          rw (p, row_from) (simp (length-take, length-drop) (omega (arith, a, c, b.named.shape.short)))
 
-      pub walk_part : WalkPart w q n st.diags r.first f
+      pub walk_part : WalkPart w q n st.diags r.first r.from
       walk_part =
           let h = walk_of in
           let g = here_of in
@@ -202,7 +208,7 @@ module _ {t w : List ℕ} {n : ℕ} {l : List Statement} {st : Scope} {k : ℕ} 
           → (c ≡ word w (math_cell n r.first)) × (a ≡ word w (math_cell n (r.first + 1)))
       two_of {q} {c} {a} p h =
           let two = (b.facts.shaped k b.inside).two (kind_f (stmt l k).kind (kind_of kw)) in
-          let m : length (visible_from q 0) ≡ 2 = part_counted p refl ∙ here_of.count ∙ two in
+          let m : length (visible_from q 0) ≡ 2 = part_counted p ∙ here_of.count ∙ two in
           let g : LastTwo w n r.first 2 c a = rw m at h in
           let z : r.first + 0 ≡ r.first = omega arith in
           (g.typecode (omega arith) ∙ ap (λ (j : ℕ). word w (math_cell n j)) z, g.variable (omega arith))

@@ -34,7 +34,7 @@ use Rattle.scopeck.specs.declared.Scope.{Scope}
 use Rattle.scopeck.specs.declared.Row.{Row}
 use Rattle.scopeck.specs.Scope.{row_of, part_of, moved, with_disjoint, Ready, Given, GivesPart}
 use Rattle.scopeck.proofs.Numbers.{kind_c, kind_v, kind_d}
-use Rattle.scopeck.proofs.Ready.{apart_of, kind_of, row_room, here_of, walk_of, here_part, walk_part}
+use Rattle.scopeck.proofs.Ready.{row_end, apart_of, kind_of, row_room, here_of, walk_of, here_part, walk_part}
 use Rattle.scopeck.proofs.Gives.{given_by, accept_some, told_some, told_nothing, nested_next, hyps_next, atoms_fit, entry_room, ess_still, dis_still, quiet, rejected}
 
 -- ---- an outermost `$c` or `$v`
@@ -54,45 +54,45 @@ is_inner : (z : Statement) → z.end ≢ none_end → outermost z ≡ false
 unfolding outermost
 is_inner z e = ne_eqb z.end none_end e
 
-module _ {w q out out' : List ℕ} {n : ℕ} {st s : Scope} {k p f en : ℕ} {r : Row} (e : r ≡ row_of w k) (pf : f ≡ word w (statement_cell k 3)) (pe : en ≡ word w (statement_cell k 7)) (es : s ≡ moved st p) where
+module _ {w q out out' : List ℕ} {n : ℕ} {st s : Scope} {k p : ℕ} {r : Row} (e : r ≡ row_of w k) (es : s ≡ moved st p) where
   outer_told : {t : List ℕ} {l : List Statement} (b : Ready t w n l st k) → q ≡ part_of t w k → {c : Kind} → (stmt l k).kind ≡ c → is_essential c ≡ false → is_disjoint c ≡ false
-      → given_at l k ≡ give.only (check_outer l (stmt l k)) → WalkOuter w q out out' n st.diags p r.first f r.at.0 → Given w w out out' n l st s k
+      → given_at l k ≡ give.only (check_outer l (stmt l k)) → WalkOuter w q out out' n st.diags p r.first r.from r.at.0 → Given w w out out' n l st s k
   outer_told {l = l} b pq ek ie id eg x =
-      let wp = walk_part b e pq pf in
+      let wp = walk_part b e pq in
       let a = accepted l k in
       rw es
       (quiet b (kept_none n 12 12 6 7 w) b.stands.marks (ap (λ (y : give.Given). y.records) eg)
       (ap (λ (y : Kind). and (is_essential y) a) ek ∙ ap (λ (y : Bool). and y a) ie)
       (ap (λ (y : Kind). and (is_disjoint y) a) ek ∙ ap (λ (y : Bool). and y a) id)
       (omega (arith, x.few, wp.walk.atoms.rows, wp.walk.room.small))
-      (same_told (x.sim k (here_part b e pq pf)) (ap (λ (y : give.Given). y.diags) eg)))
+      (same_told (x.sim k (here_part b e pq)) (ap (λ (y : give.Given). y.diags) eg)))
 
-  pub constant_outer : word w (statement_cell k 0) ≡ 1 → en ≡ none_end → WalkOuter w q out out' n st.diags p r.first f r.at.0 → GivesPart w w q out out' n st s k
+  pub constant_outer : word w (statement_cell k 0) ≡ 1 → r.end ≡ none_end → WalkOuter w q out out' n st.diags p r.first r.from r.at.0 → GivesPart w w q out out' n st s k
   constant_outer kw ne x =
       record {
         sim = λ {t} {l} b pq.
             let ek = kind_c (stmt l k).kind (kind_of b kw) in
-            let o = is_outer (stmt l k) (sym (b.named.shape.end k b.inside) ∙ sym pe ∙ ne) in
+            let o = is_outer (stmt l k) (sym (row_end b e) ∙ ne) in
             outer_told b pq ek refl refl (outer_c l k ek o) x;
       }
 
-  pub variable_outer : word w (statement_cell k 0) ≡ 2 → en ≡ none_end → WalkOuter w q out out' n st.diags p r.first f r.at.0 → GivesPart w w q out out' n st s k
+  pub variable_outer : word w (statement_cell k 0) ≡ 2 → r.end ≡ none_end → WalkOuter w q out out' n st.diags p r.first r.from r.at.0 → GivesPart w w q out out' n st s k
   variable_outer kw ne x =
       record {
         sim = λ {t} {l} b pq.
             let ek = kind_v (stmt l k).kind (kind_of b kw) in
-            let o = is_outer (stmt l k) (sym (b.named.shape.end k b.inside) ∙ sym pe ∙ ne) in
+            let o = is_outer (stmt l k) (sym (row_end b e) ∙ ne) in
             outer_told b pq ek refl refl (outer_v l k ek o) x;
       }
 
   -- ---- a nested `$c`
-  pub constant_nested : word w (statement_cell k 0) ≡ 1 → en ≢ none_end → (p ≡ st.diags + 18) × WroteOrKept out out' st.diags p (diag_record (diagnostic 13 r.at.0 0 0)) → GivesPart w w q out out' n st s k
+  pub constant_nested : word w (statement_cell k 0) ≡ 1 → r.end ≢ none_end → (p ≡ st.diags + 18) × WroteOrKept out out' st.diags p (diag_record (diagnostic 13 r.at.0 0 0)) → GivesPart w w q out out' n st s k
   unfolding give.give_c
   constant_nested kw ne x =
       record {
         sim = λ {t} {l} b pq.
             let ek = kind_c (stmt l k).kind (kind_of b kw) in
-            let o = is_inner (stmt l k) (λ i. ne (pe ∙ b.named.shape.end k b.inside ∙ i)) in
+            let o = is_inner (stmt l k) (λ i. ne (row_end b e ∙ i)) in
             let eg : given_at l k ≡ give.only (diag 13 (stmt l k).at 0 0) = given_by l k ek ∙ rw o in
             rw es
             (rejected b {d = diag 13 (stmt l k).at 0 0} (kept_none n 12 12 6 7 w) b.stands.marks eg (λ i. omega (arith, i)) (omega (arith, x.0))
@@ -113,19 +113,19 @@ inner_v : (l : List Statement) (k : ℕ) → (stmt l k).kind ≡ $v → outermos
 unfolding give.give_v
 inner_v l k e o = given_by l k e ∙ rw (o, view_nested l k)
 
-pub variable_nested : {w v q out out' : List ℕ} {n : ℕ} {st s : Scope} {k p f en : ℕ} {r : Row} → r ≡ row_of w k → f ≡ word w (statement_cell k 3) → en ≡ word w (statement_cell k 7)
-    → s ≡ moved st p → word w (statement_cell k 0) ≡ 2 → en ≢ none_end → WalkNested w v q out out' n st.diags p r.first f en r.at.0 → GivesPart w v q out out' n st s k
-variable_nested {n = n} {st = st} {k = k} {r = r} e pf pe es kw ne x =
+pub variable_nested : {w v q out out' : List ℕ} {n : ℕ} {st s : Scope} {k p : ℕ} {r : Row} → r ≡ row_of w k
+    → s ≡ moved st p → word w (statement_cell k 0) ≡ 2 → r.end ≢ none_end → WalkNested w v q out out' n st.diags p r.first r.from r.end r.at.0 → GivesPart w v q out out' n st s k
+variable_nested {n = n} {st = st} {k = k} {r = r} e es kw ne x =
     record {
       sim = λ {t} {l} b pq.
           let ek = kind_v (stmt l k).kind (kind_of b kw) in
-          let en_is = pe ∙ b.named.shape.end k b.inside in
+          let en_is = row_end b e in
           let at_is = (here_of b e).at in
           let eg = inner_v l k ek (is_inner (stmt l k) (λ i. ne (en_is ∙ i))) in
           let kt = x.kept in
-          let wp = walk_part b e pq pf in
+          let wp = walk_part b e pq in
           let a = accepted l k in
-          let g = x.sim (state_at l k).nested k (here_part b e pq pf) (rw (at_is, en_is) (b.facts.shaped k b.inside).lives) (apart_of l) (rw at_is b.stands.nests) in
+          let g = x.sim (state_at l k).nested k (here_part b e pq) (rw (at_is, en_is) (b.facts.shaped k b.inside).lives) (apart_of l) (rw at_is b.stands.nests) in
           rw es
           (record {
             kept = kept_wide 10 12 2 7 (omega arith) (omega arith) (omega arith) (omega arith) kt;

@@ -11,14 +11,14 @@ use lib.Dec.{eqb}
 use lib.ListN.{length, take, drop, set}
 use borrow.Author.Tests.{eq-eqb, ne_eqb, eqb-true}
 use Rattle.paper.specs.Base.{choose, gather, table}
-use Rattle.paper.specs.Statements.{Kind, $c, $v, $d, $f, $e, $a, $p, Statement}
+use Rattle.paper.specs.Statements.{Statement}
 use Rattle.paper.specs.Checks.{Diag}
 use Rattle.paper.specs.Records.{diag_record, diag_records, diag_stream}
 use Rattle.paper.proofs.Tests.{split, eqb_ne}
 use Rattle.paper.proofs.Lists.{gather_append}
 use Rattle.area.specs.Cells.{statement_cell, symbol_cell, word}
 use Rattle.area.proofs.Laws.{word_same, word_other}
-use Rattle.reader.specs.Rows.{kind_number, stmt}
+use Rattle.reader.specs.Rows.{stmt}
 use Rattle.facts.specs.States.{given_at}
 use Rattle.facts.proofs.States.{state_start, all_given_table}
 use Rattle.history.specs.Accepted.{no_diags, accepted, rows_of}
@@ -46,20 +46,6 @@ some_part {t} x e = record { text = t; of = x.of; holds = x.holds; part = e }
 
 pub text_part : {t w v q out out' : List ℕ} {n : ℕ} {st s : Scope} {k : ℕ} → q ≡ part_of t w k → GivesPart w v q out out' n st s k → GivesText t w v out out' n st s k
 text_part e x = record { sim = λ {l} b. x.sim b e }
-
-some_kind : (k : Kind) → 1 ≤ kind_number k
-some_kind $c = omega arith
-some_kind $v = omega arith
-some_kind $d = omega arith
-some_kind $f = omega arith
-some_kind $e = omega arith
-some_kind $a = omega arith
-some_kind $p = omega arith
-
-pub kind_some : {w q : List ℕ} {n : ℕ} {st : Scope} {k : ℕ} → SomePart w q n st k → 1 ≤ word w (statement_cell k 0)
-kind_some {k = k} x =
-    let b = x.holds in
-    omega (arith, some_kind (stmt x.of k).kind, b.named.shape.kind k b.inside)
 
 -- ---- what is closed is dropped
 module _ {t w : List ℕ} {n : ℕ} {l : List Statement} {st : Scope} {k : ℕ} (b : Before t w n l st k) where

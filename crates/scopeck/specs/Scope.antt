@@ -1,11 +1,12 @@
 -- What the words stand for before and after a statement, and what the check of a statement promises.
 -- `l` is the statements of the text t, `k` the row of the statement in hand, `st` the state of the fold.
-use Rattle.std.specs.Prelude.{◌≡◌, List, [], ℕ, ◌+◌, ◌-◌, ◌*◌, ◌<◌, ◌≤◌, eqb, length, take, drop}
-use Rattle.std.proofs.Math.Option.{some}
+use Rattle.std.specs.Prelude.{◌≡◌, List, [], ℕ, ◌+◌, ◌-◌, ◌*◌, ◌<◌, ◌≤◌, eqb, length, take, drop, Option, Some, None}
+use Rattle.std.proofs.Math.Option as logic
 use Rattle.paper.specs.Base.{choose, gather}
 use Rattle.paper.specs.Tokens.{Token}
 use Rattle.paper.specs.Statements.{Statement}
 use Rattle.paper.specs.Names.{owner}
+use Rattle.paper.specs.declared.Atom.{Atom}
 use Rattle.paper.specs.Records.{diag_record}
 use Rattle.area.specs.Cells.{statement_cell, symbol_cell, word}
 use Rattle.reader.specs.Rows.{stmt}
@@ -21,8 +22,6 @@ use Rattle.slots.specs.Marks.{Marks}
 use Rattle.slots.specs.Stack.{Stack}
 use Rattle.scopeck.specs.declared.Scope.{Scope}
 use Rattle.scopeck.specs.declared.Row.{Row}
-use Rattle.scopeck.specs.declared.Owner.{Owner}
-use Rattle.scopeck.specs.declared.Owner.TheVariants as own
 
 -- ---- the words of a statement's row
 abbrev pub row_of : List ℕ → ℕ → Row
@@ -30,6 +29,8 @@ row_of w k =
     record {
       at = record { 0 = word w (statement_cell k 1) };
       label = record { 0 = word w (statement_cell k 2) };
+      from = word w (statement_cell k 3);
+      end = word w (statement_cell k 7);
       first = word w (statement_cell k 5);
       count = word w (statement_cell k 6);
     }
@@ -46,16 +47,16 @@ pub record Borne (w : List ℕ) (n a : ℕ) : Type 0 where
   pub named : Named text w n of
   pub below : a < length (atoms of)
   pub first : Token
-  pub owned : owner of (name_of of a) ≡ some first
+  pub owned : owner of (name_of of a) ≡ logic.some first
 
 -- whether a statement at s owns its label a, whose first bearer is at o
-abbrev pub own_by : ℕ → ℕ → ℕ → Owner
-own_by o s a = choose (eqb o s) (own.Own (record { 0 = a })) own.Nothing
+abbrev pub own_by : ℕ → ℕ → ℕ → Option Atom
+own_by o s a = choose (eqb o s) (Some (record { 0 = a })) None
 
-pub record Owns (w : List ℕ) (n a s : ℕ) (r : Owner) : Type 0 where
+pub record Owns (w : List ℕ) (n a s : ℕ) (r : Option Atom) : Type 0 where
   pub is :
       {t : List ℕ} {l : List Statement} (x : Token) → Named t w n l → a < length (atoms l)
-      → owner l (name_of l a) ≡ some x → r ≡ own_by x.at s a
+      → owner l (name_of l a) ≡ logic.some x → r ≡ own_by x.at s a
 
 -- the state with another place in the diagnostics, and with one more `$e` or `$d`
 abbrev pub moved : Scope → ℕ → Scope

@@ -7,12 +7,12 @@ ghost use Rattle.scopeck.specs.Scope.{SomePart, GivesPart};
 ghost use Rattle.stream.specs.Diagnostic.{diagnostic};
 ghost use Rattle.stream.specs.Wrote.{WroteOrKept};
 
-use crate::rows::{check_label_dup, move_to, read_row};
-use crate::{Owner, Scope};
+use crate::rows::check_label_dup;
+use crate::{Row, Scope};
+use checks::Breach;
 use checks::tokens::{check_float, check_label};
 use checks::walks::{check_dv, check_eap, float_tokens, walk_nested, walk_outer};
 use paper::{StatementOffset, StatementRow, TokenIndex};
-use slots::cells::of_statement;
 use slots::look::record_float;
 use slots::stack::push;
 use stream::state::{DiagState, push_diagnostic};
@@ -23,7 +23,14 @@ pub fn put_nested_constant(out: &mut [u8], at: usize, s: StatementOffset) -> usi
     ensures { (result ≡ at + 18) × WroteOrKept out.old out.new at result (diag_record (diagnostic 13 s.0 0 0)) }
 {
     let mut told = DiagState { used: at, count: 0 };
-    push_diagnostic(&mut told, out, 13, s, TokenIndex(0), 0);
+    push_diagnostic(
+        &mut told,
+        out,
+        Breach::NestedConstant.into(),
+        s,
+        TokenIndex(0),
+        0,
+    );
     told.used
 }
 
@@ -39,15 +46,13 @@ pub fn scope_check_constant(
     requires { SomePart work.now part.now n st row × (word work.now (statement_cell row 0) ≡ 1) }
     ensures { GivesPart work.now work.now part.now diags.old diags.new n st result row }
 {
-    let x = read_row(work, n, row);
-    let from = of_statement(work, n, row, area::FROM);
-    let end = of_statement(work, n, row, area::END);
-    if end == area::NO_END {
-        let p = walk_outer(part, work, n, diags, st.diags, x.first, from, x.at);
-        return move_to(st, p);
+    let x = Row::read(work, n, row);
+    if x.end != area::NO_END {
+        let p = put_nested_constant(diags, st.diags, x.at);
+        return Scope { diags: p, ..st };
     }
-    let p = put_nested_constant(diags, st.diags, x.at);
-    move_to(st, p)
+    let p = walk_outer(part, work, n, diags, st.diags, x.first, x.from, x.at);
+    Scope { diags: p, ..st }
 }
 
 /// `$v`, whose math string is `part`: a nested one is recorded token by token.
@@ -62,15 +67,13 @@ pub fn scope_check_variable(
     requires { SomePart work.old part.now n st row × (word work.old (statement_cell row 0) ≡ 2) }
     ensures { GivesPart work.old work.new part.now diags.old diags.new n st result row }
 {
-    let x = read_row(work, n, row);
-    let from = of_statement(work, n, row, area::FROM);
-    let end = of_statement(work, n, row, area::END);
-    if end == area::NO_END {
-        let p = walk_outer(part, work, n, diags, st.diags, x.first, from, x.at);
-        return move_to(st, p);
+    let x = Row::read(work, n, row);
+    if x.end != area::NO_END {
+        let p = walk_nested(part, work, n, diags, st.diags, x.first, x.from, x.end, x.at);
+        return Scope { diags: p, ..st };
     }
-    let p = walk_nested(part, work, n, diags, st.diags, x.first, from, end, x.at);
-    move_to(st, p)
+    let p = walk_outer(part, work, n, diags, st.diags, x.first, x.from, x.at);
+    Scope { diags: p, ..st }
 }
 
 /// `$d`, whose math string is `part`: put on its stack if it is accepted.
@@ -85,16 +88,15 @@ pub fn scope_check_dv(
     requires { SomePart work.old part.now n st row × (word work.old (statement_cell row 0) ≡ 3) }
     ensures { GivesPart work.old work.new part.now diags.old diags.new n st result row }
 {
-    let x = read_row(work, n, row);
+    let x = Row::read(work, n, row);
     let p = check_dv(part, work, n, diags, st.diags, x.first, x.count, x.at);
     if p != st.diags {
-        return move_to(st, p);
+        return Scope { diags: p, ..st };
     }
     push(work, n, area::DIS, st.ds, row);
     Scope {
-        es: st.es,
         ds: st.ds + 1,
-        diags: p,
+        ..st
     }
 }
 
@@ -110,18 +112,18 @@ pub fn scope_check_float(
     requires { SomePart work.old part.now n st row × (word work.old (statement_cell row 0) ≡ 4) }
     ensures { GivesPart work.old work.new part.now diags.old diags.new n st result row }
 {
-    let x = read_row(work, n, row);
-    let Owner::Own(_) = check_label_dup(work, n, x.label, x.at) else {
+    let x = Row::read(work, n, row);
+    let Some(_) = check_label_dup(work, n, x.label, x.at) else {
         let p = check_label(work, n, diags, st.diags, x.label, x.at);
-        return move_to(st, p);
+        return Scope { diags: p, ..st };
     };
     let two = float_tokens(part, work, n, x.first);
-    let p = check_float(work, n, diags, st.diags, two.typecode, two.variable, x.at);
+    let p = check_float(work, n, diags, st.diags, two, x.at);
     if st.diags != p {
-        return move_to(st, p);
+        return Scope { diags: p, ..st };
     }
     record_float(work, n, two.variable, StatementRow(row as u32));
-    move_to(st, p)
+    st
 }
 
 /// `$e`, whose math string is `part`: put on its stack if it is accepted.
@@ -136,20 +138,19 @@ pub fn scope_check_essential(
     requires { SomePart work.old part.now n st row × (word work.old (statement_cell row 0) ≡ 5) }
     ensures { GivesPart work.old work.new part.now diags.old diags.new n st result row }
 {
-    let x = read_row(work, n, row);
-    let Owner::Own(_) = check_label_dup(work, n, x.label, x.at) else {
+    let x = Row::read(work, n, row);
+    let Some(_) = check_label_dup(work, n, x.label, x.at) else {
         let p = check_label(work, n, diags, st.diags, x.label, x.at);
-        return move_to(st, p);
+        return Scope { diags: p, ..st };
     };
     let p = check_eap(part, work, n, diags, st.diags, x.first, x.count, x.at);
     if p != st.diags {
-        return move_to(st, p);
+        return Scope { diags: p, ..st };
     }
     push(work, n, area::ESS, st.es, row);
     Scope {
         es: st.es + 1,
-        ds: st.ds,
-        diags: p,
+        ..st
     }
 }
 
@@ -165,11 +166,11 @@ pub fn scope_check_assert(
     requires { SomePart work.now part.now n st row × (6 ≤ word work.now (statement_cell row 0)) }
     ensures { GivesPart work.now work.now part.now diags.old diags.new n st result row }
 {
-    let x = read_row(work, n, row);
-    let Owner::Own(_) = check_label_dup(work, n, x.label, x.at) else {
+    let x = Row::read(work, n, row);
+    let Some(_) = check_label_dup(work, n, x.label, x.at) else {
         let p = check_label(work, n, diags, st.diags, x.label, x.at);
-        return move_to(st, p);
+        return Scope { diags: p, ..st };
     };
     let p = check_eap(part, work, n, diags, st.diags, x.first, x.count, x.at);
-    move_to(st, p)
+    Scope { diags: p, ..st }
 }

@@ -16,18 +16,14 @@ pub struct Scope {
     pub diags: usize,
 }
 
-/// What a statement's row says: its offset, its label, and the rows of its math tokens.
+/// What a statement's row says: its offset, its label, the start of its math string, the end of its group, and the rows of its math
+/// tokens.
 #[derive(Clone, Copy)]
 pub struct Row {
     pub at: StatementOffset,
     pub label: Atom,
+    pub from: u32,
+    pub end: u32,
     pub first: usize,
     pub count: usize,
-}
-
-/// The label of a statement that owns it, or nothing.
-#[derive(Clone, Copy)]
-pub enum Owner {
-    Own(Atom),
-    Nothing,
 }

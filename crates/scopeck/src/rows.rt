@@ -1,52 +1,60 @@
-// What a statement's row says, whether it owns its label, and the state after it.
-// `lookup` has an owner of its own: the first bearer of a label, where ours is the statement in hand or nothing.
+// What a statement's row says, and whether the statement owns its label.
+// A label's first bearer owns it; another statement with the label gets kind 1.
 ghost use Rattle.std.specs.Prelude.{◌≡◌, ◌+◌, ◌*◌, ◌<◌, ◌≤◌};
+ghost use Rattle.area.specs.Cells.{statement_cell, word};
+ghost use Rattle.reader.specs.Kinds.{number_of};
 ghost use Rattle.slots.specs.Kept.{Room};
-ghost use Rattle.scopeck.specs.Scope.{row_of, Borne, Owns, moved};
+ghost use Rattle.scopeck.specs.Scope.{row_of, Borne, Owns};
 
-use crate::{Owner, Row, Scope};
-use nameck::lookup;
+use crate::Row;
+use nameck::lookup::lookup_label;
 use paper::{Atom, StatementOffset};
+use reader::kind::Kind;
 use slots::cells::of_statement;
 
-/// The words of a statement's row.
-pub fn read_row(work: &[u32], n: usize, row: usize) -> Row
-    requires { Room work.now n × (3 * row + 3 ≤ n) }
-    ensures { result ≡ row_of work.now row }
+impl Row {
+    /// The words of a statement's row.
+    pub fn read(work: &[u32], n: usize, row: usize) -> Self
+        requires { Room work.now n × (3 * row + 3 ≤ n) }
+        ensures { result ≡ row_of work.now row }
+    {
+        Row {
+            at: StatementOffset(of_statement(work, n, row, area::AT)),
+            label: Atom(of_statement(work, n, row, area::LABEL)),
+            from: of_statement(work, n, row, area::FROM),
+            end: of_statement(work, n, row, area::END),
+            first: of_statement(work, n, row, area::FIRST) as usize,
+            count: of_statement(work, n, row, area::COUNT) as usize,
+        }
+    }
+}
+
+/// The kind of a statement, by the word of its row.
+pub fn kind_of(work: &[u32], n: usize, row: usize) -> Kind
+    requires { Room work.now n × (3 * row + 3 ≤ n) × (1 ≤ word work.now (statement_cell row 0)) × (word work.now (statement_cell row 0) ≤ 7) }
+    ensures { number_of result ≡ word work.now (statement_cell row 0) }
 {
-    let at = of_statement(work, n, row, area::AT);
-    let label = of_statement(work, n, row, area::LABEL);
-    let first = of_statement(work, n, row, area::FIRST) as usize;
-    let count = of_statement(work, n, row, area::COUNT) as usize;
-    Row {
-        at: StatementOffset(at),
-        label: Atom(label),
-        first: first,
-        count: count,
+    match of_statement(work, n, row, area::KIND) {
+        1 => Kind::C,
+        2 => Kind::V,
+        3 => Kind::D,
+        4 => Kind::F,
+        5 => Kind::E,
+        6 => Kind::A,
+        _ => Kind::P,
     }
 }
 
 /// The label of the statement at `s`, which bears it, if that is the first to do so.
-pub fn check_label_dup(work: &[u32], n: usize, label: Atom, s: StatementOffset) -> Owner
+pub fn check_label_dup(work: &[u32], n: usize, label: Atom, s: StatementOffset) -> Option<Atom>
     requires { Room work.now n × (label.0 < n) × Borne work.now n label.0 }
     ensures { Owns work.now n label.0 s.0 result }
 {
-    let lookup::Owner::At(o) = lookup::lookup_label(work, n, label) else {
+    let Some(o) = lookup_label(work, n, label) else {
         unreachable!()
     };
     if o.0 == s.0 {
-        return Owner::Own(label);
+        return Some(label);
     }
-    Owner::Nothing
-}
-
-/// The state with another place in the diagnostics.
-pub fn move_to(st: Scope, diags: usize) -> Scope
-    ensures { result ≡ moved st diags }
-{
-    Scope {
-        es: st.es,
-        ds: st.ds,
-        diags: diags,
-    }
+    None
 }

@@ -11,7 +11,9 @@ use crate::kinds::{
     scope_check_assert, scope_check_constant, scope_check_dv, scope_check_essential,
     scope_check_float, scope_check_variable,
 };
+use crate::rows::kind_of;
 use paper::StatementOffset;
+use reader::kind::Kind;
 use slots::cells::{of_statement, put_statement, put_symbol};
 use slots::stack::still_active;
 
@@ -27,23 +29,14 @@ pub fn check_part(
     requires { SomePart work.old part.now n st row }
     ensures { GivesPart work.old work.new part.now diags.old diags.new n st result row }
 {
-    let kind = of_statement(work, n, row, area::KIND);
-    if kind == 1 {
-        return scope_check_constant(part, work, n, diags, st, row);
+    match kind_of(work, n, row) {
+        Kind::C => scope_check_constant(part, work, n, diags, st, row),
+        Kind::V => scope_check_variable(part, work, n, diags, st, row),
+        Kind::D => scope_check_dv(part, work, n, diags, st, row),
+        Kind::F => scope_check_float(part, work, n, diags, st, row),
+        Kind::E => scope_check_essential(part, work, n, diags, st, row),
+        Kind::A | Kind::P => scope_check_assert(part, work, n, diags, st, row),
     }
-    if kind == 2 {
-        return scope_check_variable(part, work, n, diags, st, row);
-    }
-    if kind == 3 {
-        return scope_check_dv(part, work, n, diags, st, row);
-    }
-    if kind == 4 {
-        return scope_check_float(part, work, n, diags, st, row);
-    }
-    if kind == 5 {
-        return scope_check_essential(part, work, n, diags, st, row);
-    }
-    scope_check_assert(part, work, n, diags, st, row)
 }
 
 /// A statement of the text: its math string is a part that starts in the middle.
@@ -68,11 +61,7 @@ pub fn mark_accepted(work: &mut [u32], n: usize, row: usize, before: usize, afte
     requires { Room work.old n × (3 * row + 3 ≤ n) }
     ensures { work.new ≡ set work.old (statement_cell row 8) (accept_word before after) }
 {
-    if before == after {
-        put_statement(work, n, row, area::ACCEPTED, 1);
-    } else {
-        put_statement(work, n, row, area::ACCEPTED, 0);
-    }
+    put_statement(work, n, row, area::ACCEPTED, u32::from(before == after));
 }
 
 /// The state after one statement.
@@ -90,18 +79,7 @@ pub fn check_statement(
     let here = StatementOffset(of_statement(work, n, row, area::AT));
     let es = still_active(work, n, area::ESS, st.es, here);
     let ds = still_active(work, n, area::DIS, st.ds, here);
-    let next = check_kind(
-        text,
-        work,
-        n,
-        diags,
-        Scope {
-            es: es,
-            ds: ds,
-            diags: st.diags,
-        },
-        row,
-    );
+    let next = check_kind(text, work, n, diags, Scope { es, ds, ..st }, row);
     mark_accepted(work, n, row, st.diags, next.diags);
     next
 }
@@ -111,11 +89,9 @@ pub fn forget_all(work: &mut [u32], n: usize, names: usize)
     requires { Room work.old n × (names ≤ n) }
     ensures { Forgotten work.old work.new n names }
 {
-    let mut a = 0;
-    while a < names {
+    for a in 0..names {
         put_symbol(work, n, a, area::NESTED_END, 0);
         put_symbol(work, n, a, area::FLOAT, 0);
-        a += 1;
     }
 }
 
@@ -129,10 +105,8 @@ pub fn check_rows(text: &[u8], work: &mut [u32], n: usize, diags: &mut [u8], row
         ds: 0,
         diags: 0,
     };
-    let mut row = 0;
-    while row < rows {
+    for row in 0..rows {
         st = check_statement(text, work, n, diags, st, row);
-        row += 1;
     }
     st
 }

@@ -6,6 +6,9 @@ ghost use Rattle.std.specs.Prelude.{◌≡◌, ◌+◌, ◌*◌, ◌<◌, ◌≤
 ghost use Rattle.area.specs.Cells.{symbol_cell, word};
 ghost use Rattle.sight.specs.Numbered.{constant_words, seen_words, seen_count, SomeHold, CanScan, Scans, CanScanAll, ScansAll, Forgets, SomeUnnumbered, Presets};
 
+pub mod tokens;
+
+use crate::tokens::Tokens;
 use paper::{Atom, StatementRow, TokenIndex};
 
 /// One name, of which `vars` were seen: the number of variables afterwards.
@@ -27,15 +30,11 @@ pub fn scan(work: &mut [u32], n: usize, vars: usize, row: StatementRow, from: To
     requires { CanScan work.old n vars row.0 from.0 }
     ensures { Scans work.old work.new n vars result row.0 from.0 }
 {
-    let line = row.0 as usize;
-    let first = work[area::statement(line, area::FIRST)] as usize;
-    let count = work[area::statement(line, area::COUNT)] as usize;
+    let tokens = Tokens::of(work, n, row);
     let mut v = vars;
-    let mut i = from.0 as usize;
-    while i < count {
-        let atom = Atom(work[area::math(n, first + i)]);
+    for i in from.0 as usize..tokens.count {
+        let atom = Atom(work[area::math(n, tokens.first + i)]);
         v = see(work, n, v, atom);
-        i += 1;
     }
     v
 }
@@ -53,11 +52,9 @@ pub fn scan_all(
     ensures { ScansAll work.old work.new n vars result column depth from.0 }
 {
     let mut v = vars;
-    let mut k = 0;
-    while k < depth {
+    for k in 0..depth {
         let row = StatementRow(work[area::statement(k, column)]);
         v = scan(work, n, v, row, from);
-        k += 1;
     }
     v
 }
@@ -67,11 +64,9 @@ pub fn forget(work: &mut [u32], n: usize, vars: usize)
     requires { SomeHold work.old n vars }
     ensures { Forgets work.old work.new n vars }
 {
-    let mut k = 0;
-    while k < vars {
+    for k in 0..vars {
         let atom = work[area::bucket(n, k)] as usize;
         work[area::symbol(n, atom, area::NUMBER)] = 0;
-        k += 1;
     }
 }
 
@@ -80,10 +75,8 @@ pub fn mark_constants(work: &mut [u32], n: usize, names: usize)
     requires { SomeUnnumbered work.old n names }
     ensures { Presets work.old work.new n names }
 {
-    let mut a = 0;
-    while a < names {
+    for a in 0..names {
         mark_constant(work, n, Atom(a as u32));
-        a += 1;
     }
 }
 

@@ -20,10 +20,9 @@ use Rattle.area.specs.Cells.{statement_cell, symbol_cell, word}
 use Rattle.area.proofs.Laws.{word_same, word_other}
 use Rattle.reader.specs.Rows.{stmt}
 use Rattle.nameck.specs.Atoms.{atoms, name_of}
-use Rattle.slots.specs.declared.NestedSlot.TheVariants as nested
 use Rattle.paper.specs.declared.StatementRow.{StatementRow}
-use Rattle.slots.specs.declared.FloatSlot.{FloatSlot}
-use Rattle.slots.specs.declared.FloatSlot.TheVariants as floating
+use Rattle.std.specs.Prelude.{Some, None}
+use Rattle.std.specs.Prelude as code
 use Rattle.slots.specs.Kept.{Room, Kept}
 use Rattle.slots.specs.Slots.{nested_slot, nested_at, float_slot, float_hyp, float_at, with_nested, with_float, Nests, Floats, Atomic, Apart}
 use Rattle.slots.proofs.Kept.{kept_symbol, kept_then}
@@ -76,7 +75,7 @@ module _ (w : List ℕ) (n a o e : ℕ) (r : Room w n) (h : a < n) where
       kept_then (kept_symbol n 2 4 w a 2 o h (omega arith) (omega arith) (omega arith))
       (kept_symbol n 2 4 (set w (symbol_cell n a 2) o) a 3 e h (omega arith) (omega arith) (omega arith))
 
-  nested_same : (p : ℕ) → nested_slot (with_nested w n a o e) n a p ≡ choose (ltb p e) (nested.At (record { 0 = o })) nested.Nothing
+  nested_same : (p : ℕ) → nested_slot (with_nested w n a o e) n a p ≡ choose (ltb p e) (Some (record { 0 = o })) None
   unfolding nested_slot with_nested
   nested_same p =
       rw (
@@ -141,9 +140,9 @@ nests_none w n l z = record { looks = λ a p h m. rw (z a h, le-ltb p 0 (omega a
 
 -- ---- `$f`
 -- by cases on its slot, with what it says
-pub by_float : {P : Type 0} (s : FloatSlot) → ((r : StatementRow) → s ≡ floating.At r → P) → (s ≡ floating.Nothing → P) → P
-by_float (floating.At r) f g = f r refl
-by_float floating.Nothing f g = g refl
+pub by_float : {P : Type 0} (s : code.Option StatementRow) → ((r : StatementRow) → s ≡ Some r → P) → (s ≡ None → P) → P
+by_float (Some r) f g = f r refl
+by_float None f g = g refl
 
 hyp_ends : (x : Hyp) (o q : ℕ) → o ≤ q → active_hyp o x ≡ false → active_hyp q x ≡ false
 hyp_ends x o q h e = le-ltb q (hyp_end x) (omega (arith, ltb-false o (hyp_end x) e))
@@ -153,7 +152,7 @@ module _ (w : List ℕ) (n a k : ℕ) (r : Room w n) (h : a < n) where
   unfolding with_float
   kept_float = kept_symbol n 4 5 w a 4 (k + 1) h (omega arith) (omega arith) (omega arith)
 
-  float_same : (e p : ℕ) → 3 * k + 3 ≤ n → word w (statement_cell k 7) ≡ e → float_slot (with_float w n a k) n a p ≡ choose (ltb p e) (floating.At (record { 0 = k })) floating.Nothing
+  float_same : (e p : ℕ) → 3 * k + 3 ≤ n → word w (statement_cell k 7) ≡ e → float_slot (with_float w n a k) n a p ≡ choose (ltb p e) (Some (record { 0 = k })) None
   unfolding float_slot with_float
   float_same e p g d =
       let i : (k + 1) - 1 ≡ k = omega arith in
@@ -182,7 +181,7 @@ module _ (w : List ℕ) (n a k : ℕ) (r : Room w n) (h : a < n) where
       let m : word w (symbol_cell n b 4) ≢ 0 = eqb_ne z in
       rw (word_of_other b d, z, kept_float.low (word w (symbol_cell n b 4) - 1) 7 (omega (arith, m)) (omega arith) (omega arith)))
 
-float_ends : (l : List Statement) (k q : ℕ) → float_at l (choose (ltb q (stmt l k).end) (floating.At (record { 0 = k })) floating.Nothing) ≡ choose (active_hyp q (float_hyp l k)) (some (float_hyp l k)) none
+float_ends : (l : List Statement) (k q : ℕ) → float_at l (choose (ltb q (stmt l k).end) (Some (record { 0 = k })) None) ≡ choose (active_hyp q (float_hyp l k)) (some (float_hyp l k)) none
 unfolding float_hyp
 float_ends l k q = split (ltb q (stmt l k).end) (λ t. rw t) (λ t. rw t)
 

@@ -13,6 +13,8 @@ use Rattle.paper.specs.State.{Nested, view, active_nested, nested_of, by_nested,
 use Rattle.nameck.specs.Lookups.{global_answer, DeclaredBy}
 use Rattle.nameck.specs.declared.lookup.Global.{Global}
 use Rattle.nameck.specs.declared.lookup.Global.TheVariants as g
+use Rattle.std.specs.Prelude.{Some}
+use Rattle.std.specs.Prelude as code
 use Rattle.slots.specs.declared.CheckedToken.{CheckedToken}
 use Rattle.slots.specs.Slots.{nested_slot, nested_at, sense_global, checked_of, Sensed}
 
@@ -23,13 +25,15 @@ sense_by none none o p f = refl
 sense_by none (some x) o p f = refl
 sense_by (some d) m o p f = rw (f d refl) (by_kind d.constant m)
   where
-    by_kind : (b : Bool) (m : Option Nested) → sense_global (choose b (g.Constant (record { 0 = d.at })) (g.Variable (record { 0 = d.at }))) o (nested_at m) ≡ choose (ltb d.at o) (choose b constant variable) (by_nested m)
+    by_kind : (b : Bool) (m : Option Nested)
+        → sense_global (Some (choose b (g.Constant (record { 0 = d.at })) (g.Variable (record { 0 = d.at })))) o (nested_at m)
+        ≡ choose (ltb d.at o) (choose b constant variable) (by_nested m)
     by_kind true none = refl
     by_kind true (some x) = refl
     by_kind false none = refl
     by_kind false (some x) = refl
 
-pub sensed_by : {w : List ℕ} {n a o : ℕ} {d : Global} {r : CheckedToken} → DeclaredBy w n a d → r ≡ checked_of (sense_global d o (nested_slot w n a o)) a
+pub sensed_by : {w : List ℕ} {n a o : ℕ} {d : code.Option Global} {r : CheckedToken} → DeclaredBy w n a d → r ≡ checked_of (sense_global d o (nested_slot w n a o)) a
     → Sensed w n a o r
 unfolding sense view
 sensed_by {w} {n} {a} {o} {d} q e =

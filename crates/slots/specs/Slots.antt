@@ -1,6 +1,7 @@
 -- What the words of a name answer at an offset: the nested `$v` and the `$f` recorded last, and what it is; and that the
 -- slots answer as the recorded lists do.
-use Rattle.std.specs.Prelude.{◌≡◌, List, ℕ, ◌+◌, ◌-◌, ◌<◌, ◌≤◌, eqb, ltb, length, set}
+use Rattle.std.specs.Prelude.{◌≡◌, List, ℕ, ◌+◌, ◌-◌, ◌<◌, ◌≤◌, eqb, ltb, length, set, Some, None}
+use Rattle.std.specs.Prelude as code
 use Rattle.std.proofs.Math.Option.{Option, none, some}
 use Rattle.paper.specs.Base.{choose, keep}
 use Rattle.paper.specs.Tokens.{Token}
@@ -8,54 +9,51 @@ use Rattle.paper.specs.Statements.{Statement}
 use Rattle.paper.specs.Names.{Declared, global}
 use Rattle.paper.specs.State.{Nested, Hyp, float, State, active_nested, active_hyp, nested_of, float_of, view, Sense, inactive, constant, variable, sense}
 use Rattle.paper.specs.Checks.{token}
+use Rattle.paper.specs.declared.StatementRow.{StatementRow}
+use Rattle.paper.specs.declared.TokenOffset.{TokenOffset}
 use Rattle.area.specs.Cells.{statement_cell, symbol_cell, word}
 use Rattle.reader.specs.Rows.{stmt}
 use Rattle.nameck.specs.Atoms.{atoms, name_of}
 use Rattle.nameck.specs.Named.{Named}
 use Rattle.nameck.specs.declared.lookup.Global.{Global}
 use Rattle.nameck.specs.declared.lookup.Global.TheVariants as g
-use Rattle.slots.specs.declared.NestedSlot.{NestedSlot}
-use Rattle.slots.specs.declared.NestedSlot.TheVariants as nested
-use Rattle.slots.specs.declared.FloatSlot.{FloatSlot}
-use Rattle.slots.specs.declared.FloatSlot.TheVariants as floating
 use Rattle.slots.specs.declared.CheckedToken.{CheckedToken}
 use Rattle.slots.specs.declared.CheckedToken.TheVariants as checked
 
 -- ---- the nested `$v` recorded last, if it is active at p
-unfoldable pub nested_slot : List ℕ → ℕ → ℕ → ℕ → NestedSlot
+unfoldable pub nested_slot : List ℕ → ℕ → ℕ → ℕ → code.Option TokenOffset
 nested_slot w n a p =
-    choose (ltb p (word w (symbol_cell n a 3))) (nested.At (record { 0 = word w (symbol_cell n a 2) })) nested.Nothing
+    choose (ltb p (word w (symbol_cell n a 3))) (Some (record { 0 = word w (symbol_cell n a 2) })) None
 
-abbrev pub nested_at : Option Nested → NestedSlot
-nested_at none = nested.Nothing
-nested_at (some x) = nested.At (record { 0 = x.at })
+abbrev pub nested_at : Option Nested → code.Option TokenOffset
+nested_at none = None
+nested_at (some x) = Some (record { 0 = x.at })
 
 -- ---- the row of the `$f` recorded last, if it is active at p
-unfoldable pub float_slot : List ℕ → ℕ → ℕ → ℕ → FloatSlot
+unfoldable pub float_slot : List ℕ → ℕ → ℕ → ℕ → code.Option StatementRow
 float_slot w n a p =
-    choose (eqb (word w (symbol_cell n a 4)) 0) floating.Nothing
+    choose (eqb (word w (symbol_cell n a 4)) 0) None
     (choose (ltb p (word w (statement_cell (word w (symbol_cell n a 4) - 1) 7)))
-    (floating.At (record { 0 = word w (symbol_cell n a 4) - 1 }))
-    floating.Nothing)
+    (Some (record { 0 = word w (symbol_cell n a 4) - 1 })) None)
 
 -- what an accepted `$f` records, by its row
 unfoldable pub float_hyp : List Statement → ℕ → Hyp
 float_hyp l r =
     float (stmt l r).at (stmt l r).end (token (stmt l r) 1).bytes (token (stmt l r) 0).bytes
 
-abbrev pub float_at : List Statement → FloatSlot → Option Hyp
-float_at l (floating.At r) = some (float_hyp l r.0)
-float_at l floating.Nothing = none
+abbrev pub float_at : List Statement → code.Option StatementRow → Option Hyp
+float_at l (Some r) = some (float_hyp l r.0)
+float_at l None = none
 
 -- ---- what a name is, by its global declaration and its nested `$v`
-abbrev pub sense_nested : NestedSlot → Sense
-sense_nested (nested.At p) = variable
-sense_nested nested.Nothing = inactive
+abbrev pub sense_nested : code.Option TokenOffset → Sense
+sense_nested (Some p) = variable
+sense_nested None = inactive
 
-abbrev pub sense_global : Global → ℕ → NestedSlot → Sense
-sense_global (g.Constant p) o s = choose (ltb p.0 o) constant (sense_nested s)
-sense_global (g.Variable p) o s = choose (ltb p.0 o) variable (sense_nested s)
-sense_global g.Nothing o s = sense_nested s
+abbrev pub sense_global : code.Option Global → ℕ → code.Option TokenOffset → Sense
+sense_global (Some (g.Constant p)) o s = choose (ltb p.0 o) constant (sense_nested s)
+sense_global (Some (g.Variable p)) o s = choose (ltb p.0 o) variable (sense_nested s)
+sense_global None o s = sense_nested s
 
 -- the code's word for it
 abbrev pub checked_of : Sense → ℕ → CheckedToken

@@ -12,6 +12,7 @@ pub fn of_statement(work: &[u32], n: usize, row: usize, column: usize) -> u32
     work[area::statement(row, column)]
 }
 
+/// Writes a word of a statement.
 pub fn put_statement(work: &mut [u32], n: usize, row: usize, column: usize, v: u32)
     requires { Room work.old n × (3 * row + 3 ≤ n) × (column < 12) }
     ensures { work.new ≡ set work.old (statement_cell row column) v }
@@ -27,6 +28,7 @@ pub fn of_symbol(work: &[u32], n: usize, a: usize, column: usize) -> u32
     work[area::symbol(n, a, column)]
 }
 
+/// Writes a word of a symbol.
 pub fn put_symbol(work: &mut [u32], n: usize, a: usize, column: usize, v: u32)
     requires { Room work.old n × (a < n) × (column < 7) }
     ensures { work.new ≡ set work.old (symbol_cell n a column) v }

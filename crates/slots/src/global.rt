@@ -10,14 +10,12 @@ pub fn lookup_global_dv(work: &[u32], n: usize, ds: usize) -> usize
     requires { Deep work.now n 11 ds }
     ensures { GlobalDv work.now n ds result }
 {
-    let mut k = 0;
-    while k < ds {
+    for k in 0..ds {
         let row = of_statement(work, n, k, area::DIS) as usize;
         let end = of_statement(work, n, row, area::END);
         if end != area::NO_END {
             return k;
         }
-        k += 1;
     }
-    k
+    ds
 }

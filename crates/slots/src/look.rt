@@ -5,38 +5,40 @@ ghost use Rattle.area.specs.Cells.{symbol_cell, word};
 ghost use Rattle.slots.specs.Kept.{Room};
 ghost use Rattle.slots.specs.Slots.{nested_slot, float_slot, sense_nested, checked_of, Sensed, with_nested, with_float};
 
+use crate::CheckedToken;
 use crate::cells::{of_statement, of_symbol, put_symbol};
-use crate::{CheckedToken, FloatSlot, NestedSlot};
 use nameck::lookup::{Global, lookup_symbol};
 use paper::{Atom, StatementOffset, StatementRow, TokenOffset};
 
 /// The nested `$v` token of a name that is active at an offset.
-pub fn nested_of(work: &[u32], n: usize, atom: Atom, here: StatementOffset) -> NestedSlot
+pub fn nested_of(work: &[u32], n: usize, atom: Atom, here: StatementOffset) -> Option<TokenOffset>
     requires { Room work.now n × (atom.0 < n) }
     ensures { result ≡ nested_slot work.now n atom.0 here.0 }
 {
     let end = of_symbol(work, n, atom.0 as usize, area::NESTED_END);
-    if here.0 < end {
-        let at = of_symbol(work, n, atom.0 as usize, area::NESTED);
-        return NestedSlot::At(TokenOffset(at));
+    if end <= here.0 {
+        return None;
     }
-    NestedSlot::Nothing
+    let at = of_symbol(work, n, atom.0 as usize, area::NESTED);
+    Some(TokenOffset(at))
 }
 
 /// The row of the `$f` of a variable that is active at an offset.
-pub fn lookup_float(work: &[u32], n: usize, atom: Atom, here: StatementOffset) -> FloatSlot
+pub fn lookup_float(
+    work: &[u32],
+    n: usize,
+    atom: Atom,
+    here: StatementOffset,
+) -> Option<StatementRow>
     requires { Room work.now n × (atom.0 < n) × (3 * word work.now (symbol_cell n atom.0 4) ≤ n) }
     ensures { result ≡ float_slot work.now n atom.0 here.0 }
 {
-    let f = of_symbol(work, n, atom.0 as usize, area::FLOAT);
-    if f == 0 {
-        return FloatSlot::Nothing;
+    let f = of_symbol(work, n, atom.0 as usize, area::FLOAT).checked_sub(1)?;
+    let end = of_statement(work, n, f as usize, area::END);
+    if end <= here.0 {
+        return None;
     }
-    let e = of_statement(work, n, (f - 1) as usize, area::END);
-    if here.0 < e {
-        return FloatSlot::At(StatementRow(f - 1));
-    }
-    FloatSlot::Nothing
+    Some(StatementRow(f))
 }
 
 /// Whether a nested `$v` makes a name a variable.
@@ -44,10 +46,10 @@ pub fn by_nested(work: &[u32], n: usize, atom: Atom, here: StatementOffset) -> C
     requires { Room work.now n × (atom.0 < n) }
     ensures { result ≡ checked_of (sense_nested (nested_slot work.now n atom.0 here.0)) atom.0 }
 {
-    let NestedSlot::At(_) = nested_of(work, n, atom, here) else {
-        return CheckedToken::Inactive;
-    };
-    CheckedToken::Variable(atom)
+    match nested_of(work, n, atom, here) {
+        Some(_) => CheckedToken::Variable(atom),
+        None => CheckedToken::Inactive,
+    }
 }
 
 /// What a symbol is at a statement that starts at `here`.
@@ -56,19 +58,9 @@ pub fn check_math_symbol(work: &[u32], n: usize, atom: Atom, here: StatementOffs
     ensures { Sensed work.now n atom.0 here.0 result }
 {
     match lookup_symbol(work, n, atom) {
-        Global::Constant(g) => {
-            if g.0 < here.0 {
-                return CheckedToken::Constant(atom);
-            }
-            by_nested(work, n, atom, here)
-        }
-        Global::Variable(g) => {
-            if g.0 < here.0 {
-                return CheckedToken::Variable(atom);
-            }
-            by_nested(work, n, atom, here)
-        }
-        Global::Nothing => by_nested(work, n, atom, here),
+        Some(Global::Constant(g)) if g.0 < here.0 => CheckedToken::Constant(atom),
+        Some(Global::Variable(g)) if g.0 < here.0 => CheckedToken::Variable(atom),
+        _ => by_nested(work, n, atom, here),
     }
 }
 

@@ -19,14 +19,12 @@ pub fn still_active(
     requires { Deep work.now n column depth }
     ensures { result ≡ pop_of work.now column depth here.0 }
 {
-    let mut k = depth;
-    while 0 < k {
-        let row = of_statement(work, n, k - 1, column) as usize;
+    for k in (0..depth).rev() {
+        let row = of_statement(work, n, k, column) as usize;
         let end = of_statement(work, n, row, area::END);
         if here.0 < end {
-            return k;
+            return k + 1;
         }
-        k -= 1;
     }
     0
 }

@@ -1,48 +1,42 @@
 -- Bits of bytes: what the code's shifts give, where a bit stands in bytes that follow others, and rows of bits.
 -- For the functions that read and set a bit, and for their callers.
-use mathlib.Core.Path.{◌≡◌, refl}
-use mathlib.Core.Bool.{true, false}
+use mathlib.Core.Path.{◌≡◌, ap, ◌∙◌}
+use mathlib.Core.Bool.{false}
 use mathlib.Core.List.{List}
-use Prim.Native.Nat.{ℕ, zero, suc, ◌+◌, ◌*◌, ◌/◌, ◌%◌, ◌^◌, ◌<◌, ◌≤◌}
+use Prim.Native.Nat.{ℕ, ◌+◌, ◌*◌, ◌/◌, ◌%◌, ◌^◌, ◌<◌, ◌≤◌}
 use native.Mathlib.Nat.{zero-div}
 use native.Mathlib.Omega.{arith}
+use lib.Dec.{eqb}
 use lib.ListN.{length, get_or, set, get_or-eq_default}
-use lib.Seq.{set_out, set-get_or}
-use borrow.Author.Tests.{eqb-false}
+use lib.Seq.{set_out}
+use borrow.Author.Tests.{eqb-true}
+use Rattle.std.specs.Int.Bits.{bit_or, bit_and, or_add_and}
+use Rattle.std.proofs.lemmas.Nat.Bits.{and_pow}
+use Rattle.std.proofs.lemmas.Nat.{pow_below}
+use Rattle.paper.proofs.Tests.{split, eqb_ne}
 use Rattle.stream.specs.Bits.{lit, light, bit_at, with_bit}
-
--- what holds of 0 to 7
-below_8 : (P : ℕ → Type 0) → P 0 → P 1 → P 2 → P 3 → P 4 → P 5 → P 6 → P 7 → (k : ℕ) → k < 8 → P k
-below_8 P a b c d e f g h zero l = a
-below_8 P a b c d e f g h (suc zero) l = b
-below_8 P a b c d e f g h (suc (suc zero)) l = c
-below_8 P a b c d e f g h (suc (suc (suc zero))) l = d
-below_8 P a b c d e f g h (suc (suc (suc (suc zero)))) l = e
-below_8 P a b c d e f g h (suc (suc (suc (suc (suc zero))))) l = f
-below_8 P a b c d e f g h (suc (suc (suc (suc (suc (suc zero)))))) l = g
-below_8 P a b c d e f g h (suc (suc (suc (suc (suc (suc (suc zero))))))) l = h
-below_8 P a b c d e f g h (suc (suc (suc (suc (suc (suc (suc (suc k)))))))) l = absurd (omega arith)
 
 -- the power that the code makes by a shift
 shifted : (k : ℕ) → k < 8 → 1 * 2 ^ k % 256 ≡ 2 ^ k
-shifted = below_8 (λ k. 1 * 2 ^ k % 256 ≡ 2 ^ k) refl refl refl refl refl refl refl refl
+shifted k h = omega (arith, pow_below k 8 h)
 
--- a byte whose bit k is not set has room for it
-room : (x k : ℕ) → k < 8 → x < 256 → lit x k ≡ false → x + 2 ^ k < 256
-unfolding lit
-room x k l h e =
-    below_8 (λ k. (x / 2 ^ k % 2 ≡ 1 → ⊥) → x + 2 ^ k < 256)
-    (λ n. omega arith)
-    (λ n. omega arith)
-    (λ n. omega arith)
-    (λ n. omega arith)
-    (λ n. omega arith)
-    (λ n. omega arith)
-    (λ n. omega arith)
-    (λ n. omega arith)
-    k
-    l
-    (eqb-false (x / 2 ^ k % 2) 1 e)
+-- a byte with that bit set: the sum, unless it is set already
+or_light : (x k : ℕ) → k < 8 → bit_or x (1 * 2 ^ k % 256) ≡ light x k
+unfolding light lit
+or_light x k h =
+    let s = or_add_and x (2 ^ k) in
+    let a = and_pow x k in
+    rw (shifted k h)
+    (split (eqb (x / 2 ^ k % 2) 1)
+    (λ q.
+    let e : x / 2 ^ k % 2 ≡ 1 = eqb-true (x / 2 ^ k % 2) 1 q in
+    let b : bit_and x (2 ^ k) ≡ 1 * 2 ^ k = a ∙ ap (λ (n : ℕ). n * 2 ^ k) e in
+    rw q (omega arith))
+    (λ q.
+    let n : x / 2 ^ k % 2 ≡ 1 → ⊥ = eqb_ne q in
+    let e : x / 2 ^ k % 2 ≡ 0 = omega arith in
+    let b : bit_and x (2 ^ k) ≡ 0 * 2 ^ k = a ∙ ap (λ (n : ℕ). n * 2 ^ k) e in
+    rw q (omega arith)))
 
 -- ---- what the code does
 module _ (l : List ℕ) (at j : ℕ) where
@@ -54,14 +48,6 @@ module _ (l : List ℕ) (at j : ℕ) where
   unfolding with_bit
   with_off h = set_out l (at + j / 8) _ h
 
-  pub with_old : bit_at l at j ≡ true → with_bit l at j ≡ l
-  unfolding with_bit light bit_at
-  with_old e = rw e (set-get_or l (at + j / 8) 0)
-
-  pub with_new : bit_at l at j ≡ false → with_bit l at j ≡ set l (at + j / 8) (get_or l (at + j / 8) 0 + 1 * 2 ^ (j % 8) % 256)
-  unfolding with_bit light bit_at
-  with_new e = rw (e, shifted (j % 8) (omega arith))
-
-  pub bit_room : bit_at l at j ≡ false → get_or l (at + j / 8) 0 < 256 → get_or l (at + j / 8) 0 + 1 * 2 ^ (j % 8) % 256 < 256
-  unfolding bit_at
-  bit_room e h = rw (shifted (j % 8) (omega arith)) (room (get_or l (at + j / 8) 0) (j % 8) (omega arith) h e)
+  pub with_on : set l (at + j / 8) (bit_or (get_or l (at + j / 8) 0) (1 * 2 ^ (j % 8) % 256)) ≡ with_bit l at j
+  unfolding with_bit
+  with_on = rw (or_light (get_or l (at + j / 8) 0) (j % 8) (omega arith))

@@ -4,16 +4,15 @@ use mathlib.Core.Path.{◌≡◌, refl}
 use mathlib.Core.Bool.{true, false}
 use mathlib.Core.List.{List, [], ◌∷◌, ◌++◌}
 use Prim.Native.Nat.{ℕ}
+use Rattle.std.specs.Prelude.{Some, None, Ok, Err}
 use Rattle.paper.specs.Base.{codes, sameb, gather, table}
 use Rattle.paper.specs.Expressions.{of_float}
 use Rattle.paper.specs.Frames.{Full, stub, full}
 use Rattle.paper.specs.Records.{le, u16, u32, string, framed, fragment_bytes, expression_bytes, hypothesis_bytes, pair_bytes, octet, row_bytes, full_payload, frame_record}
 use Rattle.paper.specs.Lookup.{u16_at, u32_at, stub_if, label_of, search_from, look_up}
-use Rattle.paper.specs.declared.Found.TheVariants.{At, Malformed, Missing}
 use Rattle.stream.specs.Framing.{label_from, label_by, label_in, framing}
 use Rattle.stream.specs.Fields.{label_at, kind_at, counts_at, variables_at, mandatory_at, hypotheses_at, after_strings}
 use Rattle.stream.specs.Facts.{facts_at}
-use Rattle.stream.specs.declared.field.Asked.TheVariants.{Number, Nothing}
 
 abbrev assertion : Full
 assertion =
@@ -45,14 +44,14 @@ unfolding le u16 u32 string framed gather table fragment_bytes expression_bytes 
 bytes = refl
 
 -- what is asked of an assertion, of a stub frame, and where no record stands
-asked : (facts_at frames 64 ≡ record { kind = Number 2; variables = Number 2; mandatory = Number 1; hypotheses = Number 1 })
-    × (facts_at frames 32 ≡ record { kind = Number 4; variables = Nothing; mandatory = Nothing; hypotheses = Nothing })
-    × (facts_at frames 33 ≡ record { kind = Nothing; variables = Nothing; mandatory = Nothing; hypotheses = Nothing })
+asked : (facts_at frames 64 ≡ record { kind = Some 2; variables = Some 2; mandatory = Some 1; hypotheses = Some 1 })
+    × (facts_at frames 32 ≡ record { kind = Some 4; variables = None; mandatory = None; hypotheses = None })
+    × (facts_at frames 33 ≡ record { kind = None; variables = None; mandatory = None; hypotheses = None })
     × (label_at frames 32 ++ (label_at frames 33 ++ label_at frames 64) ≡ codes "wyax")
 unfolding le u16 u32 string framed gather table fragment_bytes expression_bytes hypothesis_bytes pair_bytes octet row_bytes full_payload frame_record u16_at u32_at stub_if label_from label_by label_in framing label_at kind_at counts_at variables_at mandatory_at hypotheses_at after_strings
 asked = (refl, refl, refl, refl)
 
 -- look-up: a label that is there, one that is not, and a stream with a byte too many
-answers : (look_up frames (codes "ax") ≡ At 64) × (look_up frames (codes "wx0") ≡ Missing) × (look_up (frames ++ (0 ∷ [])) (codes "wx") ≡ Malformed 152)
+answers : (look_up frames (codes "ax") ≡ Ok (Some 64)) × (look_up frames (codes "wx0") ≡ Ok None) × (look_up (frames ++ (0 ∷ [])) (codes "wx") ≡ Err (record { 0 = 152 }))
 unfolding le u16 u32 string framed gather table fragment_bytes expression_bytes hypothesis_bytes pair_bytes octet row_bytes full_payload frame_record u16_at u32_at stub_if label_of sameb search_from look_up
 answers = (refl, refl, refl)

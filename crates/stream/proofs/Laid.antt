@@ -1,13 +1,12 @@
--- Bytes laid over a list from a place on: their number, two runs of them that follow each other, one of them changed.
+-- Bytes laid over a list from a place on: their number, and two runs of them that follow each other.
 -- For every crate that writes.
 use mathlib.Core.Path.{◌≡◌, sym, ap, ◌∙◌}
-use mathlib.Core.List.{List, [], ◌∷◌, ◌++◌, append_assoc}
-use Prim.Native.Nat.{ℕ, ◌+◌, ◌<◌, ◌≤◌}
+use mathlib.Core.List.{List, [], ◌++◌, append_assoc}
+use Prim.Native.Nat.{ℕ, ◌+◌, ◌≤◌}
 use native.Mathlib.Nat.{add-zero}
-use native.Mathlib.Numerals.{add-one}
 use native.Mathlib.Omega.{arith}
-use lib.ListN.{length, take, drop, set, length-append, length-take, length-drop, take-append-drop}
-use lib.Seq.{take_at, drop_at, drop-drop, set_split}
+use lib.ListN.{length, take, drop, length-append, length-take, length-drop, take-append-drop}
+use lib.Seq.{take_at, drop_at, drop-drop}
 use Rattle.paper.specs.Answer.{laid}
 
 pub laid_none : (l : List ℕ) (i : ℕ) → laid l i [] ≡ l
@@ -17,10 +16,6 @@ laid_none l i = rw add-zero (take-append-drop i l)
 pub length_laid : (l : List ℕ) (i : ℕ) (b : List ℕ) → i + length b ≤ length l → length (laid l i b) ≡ length l
 unfolding laid
 length_laid l i b h = simp (length-append, length-take, length-drop) (omega arith)
-
-pub laid_one : (l : List ℕ) (i x : ℕ) → i < length l → set l i x ≡ laid l i (x ∷ [])
-unfolding laid
-laid_one l i x h = rw add-one (set_split l i x h)
 
 -- the bytes before the place, with those that are laid
 length_front : (l : List ℕ) (i : ℕ) (a : List ℕ) → i ≤ length l → length (take i l ++ a) ≡ i + length a

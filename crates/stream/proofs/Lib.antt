@@ -5,8 +5,8 @@ pub mod Records
 pub mod Bit
 pub mod Rows
 pub mod Setting
-pub mod Compare
 pub mod Past
+pub mod Strings
 pub mod Framing
 pub mod Search
 pub mod Front

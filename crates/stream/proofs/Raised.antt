@@ -6,7 +6,7 @@ use mathlib.Core.List.{List, [], ◌∷◌, ◌++◌}
 use Prim.Native.Nat.{ℕ, zero, suc, ◌+◌, ◌-◌, ◌<◌}
 use native.Mathlib.Omega.{arith}
 use lib.Dec.{leb}
-use lib.ListN.{length, get_or, take}
+use lib.ListN.{length, get_or}
 use borrow.Author.Tests.{leb-true}
 use Rattle.paper.specs.Base.{all}
 use Rattle.paper.specs.Bytes.{printable, math_byte}
@@ -18,13 +18,11 @@ unfolding raised
 raised_none [] e = refl
 raised_none (b ∷ l) e = absurd (omega arith)
 
-pub raised_last : (l : List ℕ) (k : ℕ) → length l ≡ k + 1 → raised l ≡ take k l ++ ((get_or l k 0 + 128) ∷ [])
+pub raised_front : (f : List ℕ) (b : ℕ) → raised (f ++ (b ∷ [])) ≡ f ++ ((b + 128) ∷ [])
 unfolding raised
-raised_last [] k e = absurd (omega arith)
-raised_last (b ∷ []) zero e = refl
-raised_last (b ∷ []) (suc k) e = absurd (omega arith)
-raised_last (b ∷ c ∷ l) zero e = absurd (omega arith)
-raised_last (b ∷ c ∷ l) (suc k) e = ap (λ r. b ∷ r) (raised_last (c ∷ l) k (omega arith))
+raised_front [] b = refl
+raised_front (x ∷ []) b = refl
+raised_front (x ∷ y ∷ f) b = ap (λ r. x ∷ r) (raised_front (y ∷ f) b)
 
 pub length_raised : (l : List ℕ) → length (raised l) ≡ length l
 unfolding raised

@@ -11,16 +11,16 @@ use lib.Dec.{eqb, ltb}
 use lib.ListN.{length, take, drop, length-drop, drop_of_length-le}
 use lib.Seq.{drop-nil, drop-drop, get_or-drop}
 use borrow.Author.Tests.{lt-ltb, ltb-true, ltb-false}
+use Rattle.std.specs.declared.option.Option as declared
+use Rattle.std.specs.Prelude.{Some, None, Ok, Err}
+use Rattle.std.proofs.lemmas.Option.{none-some}
 use Rattle.paper.specs.Base.{choose, not, sameb}
-use Rattle.paper.specs.Lookup.{u16_at, u32_at, label_place, stub_at, stub_after, stub_if, label_at, label_of, first_of, search_from, look_up}
-use Rattle.paper.specs.declared.Found.{Found}
-use Rattle.paper.specs.declared.Found.TheVariants.{At, Malformed, Missing}
+use Rattle.paper.specs.Lookup.{Found, u16_at, u32_at, label_place, stub_at, stub_after, stub_if, label_at, label_of, first_of, search_from, look_up}
+use Rattle.paper.specs.declared.Malformed.{Malformed}
 use Rattle.paper.proofs.Tests.{split}
 use Rattle.stream.proofs.Past.{past}
 use Rattle.stream.specs.Framing.{label_from, label_by, label_in, framing, kept}
 use Rattle.stream.specs.declared.walk.Record.{Record}
-use Rattle.stream.specs.declared.walk.Framing.{Framing}
-use Rattle.stream.specs.declared.walk.Framing.TheVariants.{Well, Badly}
 
 -- ---- numbers after a place
 u16_drop : (l : List ℕ) (at i : ℕ) → u16_at (drop at l) i ≡ u16_at l (at + i)
@@ -46,11 +46,11 @@ same_test a b c d f g =
     (λ p. p ∙ sym q))
 
 -- ---- the label of the record that stands at a place
-abbrev label_there : List ℕ → Framing → Option (List ℕ)
-label_there l (Well r) = some (take (r.stop - r.label) (drop r.label l))
-label_there l Badly = none
+abbrev label_there : List ℕ → declared.Option Record → Option (List ℕ)
+label_there l (Some r) = some (take (r.stop - r.label) (drop r.label l))
+label_there l None = none
 
-there : (l : List ℕ) (t : Bool) (x : Framing) → label_there l (choose t Badly x) ≡ choose t none (label_there l x)
+there : (l : List ℕ) (t : Bool) (x : declared.Option Record) → label_there l (choose t None x) ≡ choose t none (label_there l x)
 there l true x = refl
 there l false x = refl
 
@@ -148,10 +148,7 @@ pub record Stands (l : List ℕ) (at : ℕ) (r : Record) : Type 0 where
   pub stop : r.stop ≤ r.after
   pub kind : r.kind ≡ u16_at l (at + 4)
 
-not_well : (r : Record) → Badly ≡ Well r → ⊥
-not_well r e = let z : ◌≡◌ {A = ℕ} 0 1 = cc in omega arith
-
-pub stands : (l : List ℕ) (at : ℕ) (r : Record) → framing l at ≡ Well r → Stands l at r
+pub stands : (l : List ℕ) (at : ℕ) (r : Record) → framing l at ≡ Some r → Stands l at r
 unfolding framing label_in label_by label_from
 stands l at r e =
     let n = length l in
@@ -159,13 +156,13 @@ stands l at r e =
     let k = u16_at l (at + 4) in
     let p = at + label_place k in
     let w = u32_at l p in
-    let a = past (ltb n (at + 4)) _ _ _ (not_well r) e in
-    let b = past (ltb u 2) _ _ _ (not_well r) a.rest in
-    let c = past (ltb n ((at + 4) + u)) _ _ _ (not_well r) b.rest in
-    let d = past (eqb (label_place k) 0) _ _ _ (not_well r) c.rest in
-    let f = past (ltb ((at + 4) + u) (p + 4)) _ _ _ (not_well r) d.rest in
-    let g = past (ltb ((at + 4) + u) ((p + 4) + w)) _ _ _ (not_well r) f.rest in
-    let x = past (not (stub_if k l ((p + 4) + w) ((at + 4) + u))) _ _ _ (not_well r) g.rest in
+    let a = past (ltb n (at + 4)) _ _ _ (none-some r) e in
+    let b = past (ltb u 2) _ _ _ (none-some r) a.rest in
+    let c = past (ltb n ((at + 4) + u)) _ _ _ (none-some r) b.rest in
+    let d = past (eqb (label_place k) 0) _ _ _ (none-some r) c.rest in
+    let f = past (ltb ((at + 4) + u) (p + 4)) _ _ _ (none-some r) d.rest in
+    let g = past (ltb ((at + 4) + u) ((p + 4) + w)) _ _ _ (none-some r) f.rest in
+    let x = past (not (stub_if k l ((p + 4) + w) ((at + 4) + u))) _ _ _ (none-some r) g.rest in
     let q : r.after ≡ (at + 4) + u = cc in
     let s : r.label ≡ p + 4 = cc in
     let t : r.stop ≡ (p + 4) + w = cc in
@@ -208,81 +205,63 @@ rest_step n l at h =
     search_cons n (drop at l) at (simp length-drop (omega arith))
     ∙ rw (e, label_framing l at (omega arith), search_skip n (drop 1 (drop at l)) (suc at) (3 + u), i, d)
 
--- ---- the answer so far, with that of the records to come
-abbrev joined : Found → Found → Found
-joined (At p) (At q) = At p
-joined (At p) (Malformed q) = Malformed q
-joined (At p) Missing = At p
-joined (Malformed p) r = Malformed p
-joined Missing r = r
+-- ---- the record found so far, with the answer of the records to come
+abbrev joined : declared.Option ℕ → Found → Found
+joined None r = r
+joined (Some p) (Ok r) = Ok (Some p)
+joined (Some p) (Err e) = Err e
 
-abbrev Clean : Found → Type 0
-Clean (At p) = Unit
-Clean (Malformed p) = ⊥
-Clean Missing = Unit
+joined_none : (f : declared.Option ℕ) → joined f (Ok None) ≡ Ok f
+joined_none (Some p) = refl
+joined_none None = refl
 
-joined_none : (f : Found) → joined f Missing ≡ f
-joined_none (At p) = refl
-joined_none (Malformed p) = refl
-joined_none Missing = refl
+joined_bad : (f : declared.Option ℕ) (e : Malformed) → joined f (Err e) ≡ Err e
+joined_bad (Some p) e = refl
+joined_bad None e = refl
 
-joined_bad : (f : Found) (o : ℕ) → Clean f → joined f (Malformed o) ≡ Malformed o
-joined_bad (At p) o c = refl
-joined_bad (Malformed p) o c = absurd c
-joined_bad Missing o c = refl
-
-joined_first : (f : Found) (m n : List ℕ) (o : ℕ) (r : Found) → Clean f → joined f (first_of (some m) n o r) ≡ joined (kept f (sameb m n) o) r
-joined_first f m n o r c = by_test f (sameb m n) r c refl
+joined_first : (f : declared.Option ℕ) (m n : List ℕ) (o : ℕ) (r : Found) → joined f (first_of (some m) n o r) ≡ joined (kept f (sameb m n) o) r
+joined_first f m n o r = by_test f (sameb m n) r refl
   where
-    by_test : (f : Found) (t : Bool) (r : Found) → Clean f → sameb m n ≡ t → joined f (first_of (some m) n o r) ≡ joined (kept f t o) r
-    by_test (At p) true (At q) c e = rw e
-    by_test (At p) true (Malformed q) c e = refl
-    by_test (At p) true Missing c e = rw e
-    by_test (At p) false (At q) c e = rw e
-    by_test (At p) false (Malformed q) c e = refl
-    by_test (At p) false Missing c e = rw e
-    by_test (Malformed p) t r c e = absurd c
-    by_test Missing true (At q) c e = rw e
-    by_test Missing true (Malformed q) c e = refl
-    by_test Missing true Missing c e = rw e
-    by_test Missing false (At q) c e = rw e
-    by_test Missing false (Malformed q) c e = refl
-    by_test Missing false Missing c e = rw e
+    by_test : (f : declared.Option ℕ) (t : Bool) (r : Found) → sameb m n ≡ t → joined f (first_of (some m) n o r) ≡ joined (kept f t o) r
+    by_test (Some p) true (Ok (Some q)) e = rw e
+    by_test (Some p) true (Ok None) e = rw e
+    by_test (Some p) true (Err x) e = refl
+    by_test (Some p) false (Ok (Some q)) e = rw e
+    by_test (Some p) false (Ok None) e = rw e
+    by_test (Some p) false (Err x) e = refl
+    by_test None true (Ok (Some q)) e = rw e
+    by_test None true (Ok None) e = rw e
+    by_test None true (Err x) e = refl
+    by_test None false (Ok (Some q)) e = rw e
+    by_test None false (Ok None) e = rw e
+    by_test None false (Err x) e = refl
 
-kept_clean : (f : Found) (t : Bool) (o : ℕ) → Clean f → Clean (kept f t o)
-kept_clean (At p) t o c = tt
-kept_clean (Malformed p) t o c = c
-kept_clean Missing true o c = tt
-kept_clean Missing false o c = tt
-
--- the walk has come to a place, with an answer so far
-pub record Walked (f n : List ℕ) (x : Found) (at : ℕ) : Type 0 where
-  pub clean : Clean x
+-- the walk has come to a place, with the record found so far
+pub record Walked (f n : List ℕ) (x : declared.Option ℕ) (at : ℕ) : Type 0 where
   pub within : at ≤ length f
   pub same : joined x (rest_of n f at) ≡ look_up f n
 
-pub walk_start : (f n : List ℕ) → Walked f n Missing 0
+pub walk_start : (f n : List ℕ) → Walked f n None 0
 unfolding rest_of look_up
-walk_start f n = record { clean = tt; within = omega arith; same = refl }
+walk_start f n = record { within = omega arith; same = refl }
 
-pub walk_bad : {f n : List ℕ} {x : Found} {at : ℕ} → Walked f n x at → at < length f → framing f at ≡ Badly → Malformed at ≡ look_up f n
+pub walk_bad : {f n : List ℕ} {x : declared.Option ℕ} {at : ℕ} → Walked f n x at → at < length f → framing f at ≡ None → Err (record { 0 = at }) ≡ look_up f n
 walk_bad {f} {n} {x} {at} w h e =
-    let r : rest_of n f at ≡ Malformed at = rest_step n f at h ∙ rw e in
-    sym (joined_bad x at w.clean) ∙ ap (joined x) (sym r) ∙ w.same
+    let r : rest_of n f at ≡ Err (record { 0 = at }) = rest_step n f at h ∙ rw e in
+    sym (joined_bad x (record { 0 = at })) ∙ ap (joined x) (sym r) ∙ w.same
 
-pub walk_step : {f n : List ℕ} {x y : Found} {at : ℕ} {r : Record} → Walked f n x at → at < length f → framing f at ≡ Well r
+pub walk_step : {f n : List ℕ} {x y : declared.Option ℕ} {at : ℕ} {r : Record} → Walked f n x at → at < length f → framing f at ≡ Some r
     → y ≡ kept x (sameb (take (r.stop - r.label) (drop r.label f)) n) at → Walked f n y r.after
 walk_step {f} {n} {x} {y} {at} {r} w h e k =
     let s = stands f at r e in
     let m = take (r.stop - r.label) (drop r.label f) in
     let q : rest_of n f at ≡ first_of (some m) n at (rest_of n f r.after) = rest_step n f at h ∙ rw (e, s.after) in
     record {
-      clean = rw k (kept_clean x (sameb m n) at w.clean);
       within = s.within;
-      same = rw k (sym (joined_first x m n at (rest_of n f r.after) w.clean) ∙ ap (joined x) (sym q) ∙ w.same);
+      same = rw k (sym (joined_first x m n at (rest_of n f r.after)) ∙ ap (joined x) (sym q) ∙ w.same);
     }
 
-pub walk_end : {f n : List ℕ} {x : Found} {at : ℕ} → Walked f n x at → length f ≤ at → x ≡ look_up f n
+pub walk_end : {f n : List ℕ} {x : declared.Option ℕ} {at : ℕ} → Walked f n x at → length f ≤ at → Ok x ≡ look_up f n
 unfolding rest_of search_from
 walk_end {f} {n} {x} {at} w h =
     sym (joined_none x) ∙ ap (joined x) (sym (rw (drop_of_length-le f h))) ∙ w.same

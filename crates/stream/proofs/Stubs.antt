@@ -1,76 +1,71 @@
--- A stub string, byte by byte as the code looks at it; and one at a place, test by test.
+-- A stub string, its bytes before the last and the last; and one at a place, as the code finds it.
 -- For the framing of kind 1 records.
-use mathlib.Core.Path.{◌≡◌, refl, sym, ◌∙◌}
-use mathlib.Core.Bool.{Bool, true, false}
-use mathlib.Core.List.{List, [], ◌∷◌}
-use Prim.Native.Nat.{ℕ, suc, ◌+◌, ◌-◌, ◌<◌, ◌≤◌}
+use mathlib.Core.Path.{◌≡◌, refl, sym, ap, ◌∙◌}
+use mathlib.Core.Bool.{Bool, true, false, ◌&&◌}
+use mathlib.Core.List.{List, [], ◌∷◌, ◌++◌}
+use Prim.Native.Nat.{ℕ, ◌+◌, ◌-◌, ◌<◌, ◌≤◌}
 use native.Mathlib.Omega.{arith}
-use lib.Dec.{eqb}
-use lib.ListN.{length, get_or, take, drop, length-drop, drop_of_length-le}
-use lib.Seq.{drop-cons}
-use borrow.Author.Tests.{lt-ltb, le-ltb, eqb-true, eq-eqb, ne_eqb}
+use lib.Dec.{ltb}
+use lib.ListN.{length, take, drop}
+use borrow.Author.Tests.{le-ltb, lt-ltb, eq-eqb, ne_eqb}
+use Rattle.std.specs.List.{list_all}
+use Rattle.std.specs.Prelude.{Some, None}
+use Rattle.paper.specs.Base.{choose}
 use Rattle.paper.specs.Lookup.{u32_at, stub_string, stub_at, stub_after, stub_if}
-use Rattle.paper.proofs.Tests.{split, eqb_ne}
+use Rattle.stream.specs.Framing.{string_stop}
+use Rattle.stream.proofs.Strings.{stops, no_string, a_string}
 
-one_high : (b : ℕ) (r : List ℕ) → 128 ≤ b → length r ≡ 0 → true ≡ stub_string (b ∷ r)
+-- ---- byte by byte
+abbrev pub low : ℕ → Bool
+low b = ltb b 128
+
+and_same : (s t : Bool) → choose s t false ≡ (s && t)
+and_same true t = refl
+and_same false t = refl
+
+no_other : (t : Bool) → choose t false false ≡ false
+no_other true = refl
+no_other false = refl
+
+-- the last byte is high: the others have to be low
+pub stub_high : (f : List ℕ) (b : ℕ) → 128 ≤ b → list_all low f ≡ stub_string (f ++ (b ∷ []))
 unfolding stub_string
-one_high b [] g e = sym (rw (le-ltb b 128 g))
-one_high b (c ∷ r) g e = absurd (omega arith)
+stub_high [] b h = sym (rw (le-ltb b 128 h))
+stub_high (x ∷ []) b h = sym (and_same (low x) (choose (low b) false true) ∙ rw (le-ltb b 128 h))
+stub_high (x ∷ y ∷ f) b h = ap (λ r. low x && r) (stub_high (y ∷ f) b h) ∙ sym (and_same (low x) (stub_string (y ∷ (f ++ (b ∷ [])))))
 
-high_within : (b : ℕ) (r : List ℕ) → 128 ≤ b → (length r ≡ 0 → ⊥) → false ≡ stub_string (b ∷ r)
+-- it is low: no stub string
+pub stub_low : (f : List ℕ) (b : ℕ) → b < 128 → false ≡ stub_string (f ++ (b ∷ []))
 unfolding stub_string
-high_within b [] g n = absurd (n refl)
-high_within b (c ∷ r) g n = sym (rw (le-ltb b 128 g))
+stub_low [] b h = sym (rw (lt-ltb b 128 h))
+stub_low (x ∷ []) b h = sym (rw (lt-ltb b 128 h) (no_other (low x)))
+stub_low (x ∷ y ∷ f) b h = sym (ap (λ r. choose (low x) r false) (sym (stub_low (y ∷ f) b h)) ∙ no_other (low x))
 
-module _ (l : List ℕ) (i : ℕ) (h : i < length l) where
-  pub stub_low : get_or l i 0 < 128 → stub_string (drop (i + 1) l) ≡ stub_string (drop i l)
-  unfolding stub_string
-  stub_low g =
-      let e : i + 1 ≡ suc i = omega arith in
-      rw (drop-cons l i 0 h, lt-ltb (get_or l i 0) 128 g, e)
-
-  pub stub_first : (t : Bool) → 128 ≤ get_or l i 0 → t ≡ eqb (i + 1) (length l) → t ≡ stub_string (drop i l)
-  stub_first t g e =
-      e
-      ∙ split (eqb (i + 1) (length l))
-      (λ q. q ∙ rw (drop-cons l i 0 h) (one_high (get_or l i 0) (drop (suc i) l) g (simp length-drop (omega (arith, eqb-true (i + 1) (length l) q)))))
-      (λ q.
-      q
-      ∙ rw (drop-cons l i 0 h)
-      (high_within (get_or l i 0) (drop (suc i) l) g (λ z. let y : i + 1 ≡ length l = omega (arith, length-drop (suc i) l) in eqb_ne q y)))
-
-pub stub_none : (l : List ℕ) (i : ℕ) → length l ≤ i → false ≡ stub_string (drop i l)
+pub stub_none : (l : List ℕ) → length l ≡ 0 → false ≡ stub_string l
 unfolding stub_string
-stub_none l i h = rw (drop_of_length-le l h)
+stub_none [] e = refl
+stub_none (b ∷ l) e = absurd (omega arith)
 
--- ---- at a place, test by test
+-- ---- at a place
 module _ (l : List ℕ) (p e : ℕ) where
-  pub at_short : e < p + 4 → false ≡ stub_at l p e
+  pub at_none : string_stop l p e ≡ None → false ≡ stub_at l p e
   unfolding stub_at
-  at_short h = sym (rw (lt-ltb e (p + 4) h))
+  at_none z = sym (no_string l p e false _ z)
 
-  pub after_short : e < p + 4 → false ≡ stub_after l p e
+  pub after_none : string_stop l p e ≡ None → false ≡ stub_after l p e
   unfolding stub_after
-  after_short h = sym (rw (lt-ltb e (p + 4) h))
+  after_none z = sym (no_string l p e false _ z)
 
-  module _ (h : p + 4 ≤ e) (n : ℕ) (size : n ≡ u32_at l p) where
-    pub at_over : e < (p + 4) + n → false ≡ stub_at l p e
-    unfolding stub_at
-    at_over g = sym (rw (le-ltb e (p + 4) h, ← size, lt-ltb e ((p + 4) + n) g))
+  pub at_string : {q : ℕ} → string_stop l p e ≡ Some q → stub_string (take (q - (p + 4)) (drop (p + 4) l)) ≡ stub_at l p e
+  unfolding stub_at
+  at_string {q} z =
+      let s = stops l p e q z in
+      let m : q - (p + 4) ≡ u32_at l p = omega (arith, s.is) in
+      rw m (sym (a_string l p e false _ z))
 
-    pub after_over : e < (p + 4) + n → false ≡ stub_after l p e
-    unfolding stub_after
-    after_over g = sym (rw (le-ltb e (p + 4) h, ← size, lt-ltb e ((p + 4) + n) g))
-
-    pub at_string : (p + 4) + n ≤ e → stub_string (take (((p + 4) + n) - (p + 4)) (drop (p + 4) l)) ≡ stub_at l p e
-    unfolding stub_at
-    at_string g =
-        let m : ((p + 4) + n) - (p + 4) ≡ n = omega arith in
-        rw m (sym (rw (le-ltb e (p + 4) h, ← size, le-ltb e ((p + 4) + n) g)))
-
-    pub after_string : (p + 4) + n ≤ e → stub_at l ((p + 4) + n) e ≡ stub_after l p e
-    unfolding stub_after
-    after_string g = sym (rw (le-ltb e (p + 4) h, ← size, le-ltb e ((p + 4) + n) g))
+  pub after_string : {q : ℕ} → string_stop l p e ≡ Some q → stub_at l q e ≡ stub_after l p e
+  unfolding stub_after
+  after_string {q} z = let s = stops l p e q z in rw s.is (sym (a_string l p e false _ z))
 
 -- ---- by the kind
 pub if_old : (k : ℕ) (l : List ℕ) (p e : ℕ) → k ≡ 1 → stub_after l p e ≡ stub_if k l p e

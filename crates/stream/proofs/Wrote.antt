@@ -1,17 +1,23 @@
--- The laws of a write: nothing, one byte, two writes that are one, and what a buffer that the bytes fit into says.
+-- The laws of a write: nothing, a part of the buffer, two writes that are one, and what a buffer that the bytes fit into says.
 -- For every crate that writes.
 use mathlib.Core.Path.{◌≡◌, refl, sym, ap, ◌∙◌}
 use mathlib.Core.List.{List, [], ◌∷◌, ◌++◌}
 use Prim.Native.Nat.{ℕ, ◌+◌, ◌<◌, ◌≤◌}
 use native.Mathlib.Nat.{add-zero}
 use native.Mathlib.Omega.{arith}
-use native.Mathlib.Numerals.{add-one}
-use lib.ListN.{length, get_or, take, set, length-set, length-append}
-use lib.Seq.{take-suc, take-length}
+use lib.ListN.{length, length-append}
+use lib.Seq.{paste}
+use borrow.Rule.Slice.PartMut.{put_mid}
+use Rattle.std.proofs.lemmas.Slice.{put_mid-paste}
+use Rattle.std.proofs.lemmas.List.Edits.{paste_all}
 use Rattle.paper.specs.Answer.{laid}
 use Rattle.paper.specs.Records.{u16, u32, framed}
 use Rattle.stream.specs.Wrote.{Wrote}
-use Rattle.stream.proofs.Laid.{laid_none, laid_one, laid_append}
+use Rattle.stream.proofs.Laid.{laid_none, length_laid, laid_append}
+
+pasted : (l : List ℕ) (at : ℕ) (b : List ℕ) → paste l at b (length b) ≡ laid l at b
+unfolding laid
+pasted l at b = paste_all l at b (length b) refl
 
 -- nothing is written
 pub wrote_none : (l : List ℕ) (at : ℕ) → Wrote l l at at []
@@ -28,10 +34,6 @@ wrote_then {l} {m} {n} {at} {p} {q} {a} {b} x y =
           ∙ rw (x.bytes (omega (arith, y.place)), x.place) (laid_append l at a b (omega (arith, x.place, y.place)));
     }
 
--- one byte that fits
-pub wrote_set : (l : List ℕ) (at b : ℕ) → at < length l → Wrote l (set l at b) at (at + 1) (b ∷ [])
-wrote_set l at b h = record { place = refl; len = length-set l at b; bytes = λ k. laid_one l at b h }
-
 -- bytes that do not fit are left out
 pub wrote_skip : (l : List ℕ) (at r : ℕ) (b : List ℕ) → r ≡ at + length b → length l < r → Wrote l l at r b
 wrote_skip l at r b e h = record { place = e; len = refl; bytes = λ k. absurd (omega arith) }
@@ -43,19 +45,11 @@ wrote_to w e = rw e w
 pub wrote_as : {l m : List ℕ} {at r : ℕ} {a b : List ℕ} → Wrote l m at r a → b ≡ a → Wrote l m at r b
 wrote_as w e = rw e w
 
--- one more byte that fits
-pub wrote_next : {l m : List ℕ} {at r : ℕ} {a : List ℕ} → Wrote l m at r a → (p b : ℕ) → p ≡ r → p < length l → Wrote l (set m p b) at (p + 1) (a ++ (b ∷ []))
-wrote_next {l} {m} {at} {r} w p b e h =
-    wrote_then (wrote_to w e) (wrote_set m p b (omega (arith, w.len)))
-
--- the bytes b one after the other: the next of them, and all of them
-pub wrote_more : {l m : List ℕ} {at : ℕ} (b : List ℕ) (i : ℕ) → Wrote l m at (at + i) (take i b) → i < length b → at + i < length l
-    → Wrote l (set m (at + i) (get_or b i 0)) at (at + (i + 1)) (take (i + 1) b)
-wrote_more {l} {m} {at} b i w h k =
-    rw (add-one i, take-suc b i 0) (wrote_to (wrote_next w (at + i) (get_or b i 0) refl k) (omega arith))
-
-pub wrote_all : {l m : List ℕ} {at : ℕ} (b : List ℕ) (i : ℕ) → Wrote l m at (at + i) (take i b) → i ≡ length b → Wrote l m at (at + i) b
-wrote_all b i w e = wrote_as w (rw (e, take-length))
+-- a part of the buffer that is made to hold the bytes b, as by `copy_from_slice`
+pub wrote_part : (l : List ℕ) (at k : ℕ) (m b : List ℕ) → m ≡ b → k ≡ length b → at + length b ≤ length l → Wrote l (put_mid at k l m) at (at + length b) b
+wrote_part l at k m b e n h =
+    let p : put_mid at k l m ≡ laid l at b = put_mid-paste at k l m b (length b) e (sym n) refl ∙ pasted l at b in
+    record { place = refl; len = ap length p ∙ length_laid l at b h; bytes = λ i. p }
 
 -- a record: its length, and then its kind and its payload
 pub wrote_framed : {l m o : List ℕ} {at p r n : ℕ} (k : ℕ) (b : List ℕ) → Wrote l m at p (u32 n) → Wrote m o p r (u16 k ++ b) → n ≡ 2 + length b

@@ -8,11 +8,10 @@ pub fn bit_at(bytes: &[u8], at: usize, j: usize) -> bool
     requires { at + j / 8 < 2 ^ 64 }
     ensures { result ≡ bit_at bytes.now at j }
 {
-    let i = at + j / 8;
-    if bytes.len() <= i {
-        return false;
+    match bytes.get(at + j / 8) {
+        Some(byte) => (*byte >> (j % 8)) % 2 == 1,
+        None => false,
     }
-    (bytes[i] >> (j % 8)) % 2 == 1
 }
 
 /// Sets bit j of the bytes from a place on.
@@ -20,11 +19,8 @@ pub fn set_bit(bytes: &mut [u8], at: usize, j: usize)
     requires { at + j / 8 < 2 ^ 64 }
     ensures { bytes.new ≡ with_bit bytes.old at j }
 {
-    if bit_at(bytes, at, j) {
-        return;
-    }
     let i = at + j / 8;
     if i < bytes.len() {
-        bytes[i] = bytes[i] + (1 << (j % 8));
+        bytes[i] |= 1 << (j % 8);
     }
 }

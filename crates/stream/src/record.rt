@@ -25,11 +25,11 @@ pub fn put_diag(
     if out.len() < end {
         return end;
     }
-    let a = write::put_u32(out, at, 14);
-    let b = write::put_u16(out, a, kind as u64);
-    let c = write::put_u32(out, b, statement.0 as u64);
-    let d = write::put_u32(out, c, index.0 as u64);
-    write::put_u32(out, d, other as u64)
+    let at = write::put_u32(out, at, 14);
+    let at = write::put_u16(out, at, kind as u64);
+    let at = write::put_u32(out, at, statement.0 as u64);
+    let at = write::put_u32(out, at, index.0 as u64);
+    write::put_u32(out, at, other as u64)
 }
 
 /// The stub frame of a `$f`: kind 4, start, end, label, typecode, variable.
@@ -46,11 +46,11 @@ pub fn put_stub(
     ensures { (result ≡ at + 26 + length label.now + length typecode.now + length variable.now) × Wrote out.old out.new at result (frame_record (stub start.0 end label.now typecode.now variable.now)) }
 {
     let n = 22 + label.len() + typecode.len() + variable.len();
-    let a = write::put_u32(out, at, n as u64);
-    let b = write::put_u16(out, a, 4);
-    let c = write::put_u32(out, b, start.0 as u64);
-    let d = write::put_u32(out, c, end as u64);
-    let e = write::put_string(out, d, label);
-    let f = write::put_string(out, e, typecode);
-    write::put_string(out, f, variable)
+    let at = write::put_u32(out, at, n as u64);
+    let at = write::put_u16(out, at, 4);
+    let at = write::put_u32(out, at, start.0 as u64);
+    let at = write::put_u32(out, at, end as u64);
+    let at = write::put_string(out, at, label);
+    let at = write::put_string(out, at, typecode);
+    write::put_string(out, at, variable)
 }

@@ -27,5 +27,5 @@ pub fn push_diagnostic(
     ensures { Pushed state.old state.new out.old out.new (diagnostic kind statement.0 index.0 other) }
 {
     state.used = record::put_diag(out, state.used, kind, statement, index, other);
-    state.count = state.count + 1;
+    state.count += 1;
 }

@@ -1,11 +1,10 @@
 // `FrameRef`: the frame bytes and the place of a record in them, and what is asked of that record.
-// Each function takes the struct apart and calls the one of `field` that does the work; `facts_of` has plain parameters.
+// Each method calls the function of `field` that does the work; `facts_of` has plain parameters.
 ghost use Rattle.std.specs.Prelude.{◌≡◌};
 ghost use Rattle.stream.specs.Fields.{label_at, kind_at, variables_at, mandatory_at, hypotheses_at};
 ghost use Rattle.stream.specs.Facts.{facts_at};
 
 use crate::field;
-use crate::field::Asked;
 
 /// A record of a frame stream.
 #[derive(Clone, Copy)]
@@ -14,60 +13,68 @@ pub struct FrameRef<'a> {
     pub at: usize,
 }
 
-/// What the four functions answer of one record.
+/// What the four methods answer of one record.
 #[derive(Clone, Copy)]
 pub struct Facts {
-    pub kind: Asked,
-    pub variables: Asked,
-    pub mandatory: Asked,
-    pub hypotheses: Asked,
+    pub kind: Option<usize>,
+    pub variables: Option<usize>,
+    pub mandatory: Option<usize>,
+    pub hypotheses: Option<usize>,
 }
 
-pub fn view<'a>(frames: &'a [u8], at: usize) -> FrameRef<'a>
-    ensures { (result.frames ≡ frames.entry) × (result.at ≡ at) }
-{
-    FrameRef { frames, at }
-}
+impl<'a> FrameRef<'a> {
+    /// The record at a place of the frame bytes.
+    pub fn new(frames: &'a [u8], at: usize) -> FrameRef<'a>
+        ensures { (result.frames ≡ frames.entry) × (result.at ≡ at) }
+    {
+        FrameRef { frames, at }
+    }
 
-pub fn label<'a>(r: FrameRef<'a>) -> &'a [u8]
-    ensures { result.now ≡ label_at r.entry.frames.now r.entry.at }
-{
-    field::label_at(r.frames, r.at)
-}
+    /// The label; no bytes for a record that is not well framed.
+    pub fn label(self) -> &'a [u8]
+        ensures { result.now ≡ label_at self.entry.frames.now self.entry.at }
+    {
+        field::label_at(self.frames, self.at)
+    }
 
-pub fn kind<'a>(r: FrameRef<'a>) -> Asked
-    ensures { result ≡ kind_at r.entry.frames.now r.entry.at }
-{
-    field::kind_at(r.frames, r.at)
-}
+    /// The kind.
+    pub fn kind(self) -> Option<usize>
+        ensures { result ≡ kind_at self.entry.frames.now self.entry.at }
+    {
+        field::kind_at(self.frames, self.at)
+    }
 
-pub fn variables<'a>(r: FrameRef<'a>) -> Asked
-    ensures { result ≡ variables_at r.entry.frames.now r.entry.at }
-{
-    field::variables_at(r.frames, r.at)
-}
+    /// V, the number of variables of an assertion.
+    pub fn variables(self) -> Option<usize>
+        ensures { result ≡ variables_at self.entry.frames.now self.entry.at }
+    {
+        field::variables_at(self.frames, self.at)
+    }
 
-pub fn mandatory<'a>(r: FrameRef<'a>) -> Asked
-    ensures { result ≡ mandatory_at r.entry.frames.now r.entry.at }
-{
-    field::mandatory_at(r.frames, r.at)
-}
+    /// M, the number of mandatory variables of an assertion.
+    pub fn mandatory(self) -> Option<usize>
+        ensures { result ≡ mandatory_at self.entry.frames.now self.entry.at }
+    {
+        field::mandatory_at(self.frames, self.at)
+    }
 
-pub fn hypotheses<'a>(r: FrameRef<'a>) -> Asked
-    ensures { result ≡ hypotheses_at r.entry.frames.now r.entry.at }
-{
-    field::hypotheses_at(r.frames, r.at)
+    /// The number of hypotheses of an assertion.
+    pub fn hypotheses(self) -> Option<usize>
+        ensures { result ≡ hypotheses_at self.entry.frames.now self.entry.at }
+    {
+        field::hypotheses_at(self.frames, self.at)
+    }
 }
 
 /// All four, for callers that have the bytes and a place.
 pub fn facts_of(frames: &[u8], at: usize) -> Facts
     ensures { result ≡ facts_at frames.now at }
 {
-    let r = view(frames, at);
+    let r = FrameRef::new(frames, at);
     Facts {
-        kind: kind(r),
-        variables: variables(r),
-        mandatory: mandatory(r),
-        hypotheses: hypotheses(r),
+        kind: r.kind(),
+        variables: r.variables(),
+        mandatory: r.mandatory(),
+        hypotheses: r.hypotheses(),
     }
 }

@@ -2,10 +2,10 @@
 // Nothing is changed; every buffer and every label has an answer.
 ghost use Rattle.std.specs.Prelude.{◌≡◌, ◌+◌, ◌-◌, ◌<◌, ◌≤◌, ◌^◌, length};
 ghost use Rattle.paper.specs.Base.{sameb};
-ghost use Rattle.paper.specs.Lookup.{u16_at, u32_at, label_place, stub_string, stub_at, stub_after, stub_if, look_up};
-ghost use Rattle.stream.specs.Framing.{label_in, framing, kept};
+ghost use Rattle.paper.specs.Lookup.{u16_at, u32_at, stub_string, stub_at, stub_after, stub_if, look_up};
+ghost use Rattle.stream.specs.Framing.{place_of, string_stop, label_in, framing, kept};
 
-use paper::Found;
+use paper::{Found, Malformed};
 
 /// A well framed record: its kind, where its label starts and stops, and where the next record starts.
 #[derive(Clone, Copy)]
@@ -16,19 +16,12 @@ pub struct Record {
     pub after: usize,
 }
 
-/// What stands at a place of a frame stream.
-#[derive(Clone, Copy)]
-pub enum Framing {
-    Well(Record),
-    Badly,
-}
-
 /// The number of 16 bits at a place.
 pub fn u16_at(bytes: &[u8], at: usize) -> usize
     requires { at + 2 ≤ length bytes.now }
     ensures { (result < 2 ^ 16) × (result ≡ u16_at bytes.now at) }
 {
-    bytes[at] as usize + 256 * (bytes[at + 1] as usize)
+    u16::from_le_bytes([bytes[at], bytes[at + 1]]) as usize
 }
 
 /// The number of 32 bits at a place.
@@ -36,40 +29,44 @@ pub fn u32_at(bytes: &[u8], at: usize) -> usize
     requires { at + 4 ≤ length bytes.now }
     ensures { (result < 2 ^ 32) × (result ≡ u32_at bytes.now at) }
 {
-    u16_at(bytes, at) + 65536 * u16_at(bytes, at + 2)
+    u32::from_le_bytes([bytes[at], bytes[at + 1], bytes[at + 2], bytes[at + 3]]) as usize
 }
 
-/// Where the label string of a record of this kind stands, from the record's start; 0 for no kind.
-pub fn label_place(kind: usize) -> usize
-    ensures { (result ≤ 14) × (result ≡ label_place kind) }
+/// Where the label string of a record of this kind stands, from the record's start; none for no kind.
+pub fn label_place(kind: usize) -> Option<usize>
+    ensures { result ≡ place_of kind }
 {
-    if kind == 1 {
-        return 14;
+    match kind {
+        1 | 4 => Some(14),
+        2 | 3 => Some(10),
+        _ => None,
     }
-    if kind == 2 {
-        return 10;
-    }
-    if kind == 3 {
-        return 10;
-    }
-    if kind == 4 {
-        return 14;
-    }
-    0
 }
 
 /// Whether bytes are under 128 but for the last, which is not.
 pub fn is_stub(bytes: &[u8]) -> bool
     ensures { result ≡ stub_string bytes.now }
 {
-    let mut i = 0;
-    while i < bytes.len() {
-        if bytes[i] >= 128 {
-            return i + 1 == bytes.len();
-        }
-        i += 1;
+    match bytes.split_last() {
+        Some((last, front)) => *last >= 128 && front.iter().all(|b| *b < 128),
+        None => false,
     }
-    false
+}
+
+/// Where the string at a place stops: its length and its bytes stand before `end`.
+pub fn string_stop(bytes: &[u8], from: usize, end: usize) -> Option<usize>
+    requires { (from + 4 < 2 ^ 64) × (end ≤ length bytes.now) }
+    ensures { result ≡ string_stop bytes.now from end }
+{
+    let start = from + 4;
+    if end < start {
+        return None;
+    }
+    let length = u32_at(bytes, from);
+    if end - start < length {
+        return None;
+    }
+    Some(start + length)
 }
 
 /// Whether a stub string stands at a place, before `end`.
@@ -77,16 +74,10 @@ fn stub_at(bytes: &[u8], from: usize, end: usize) -> bool
     requires { (from ≤ end) × (end ≤ length bytes.now) }
     ensures { result ≡ stub_at bytes.now from end }
 {
-    if end - from < 4 {
-        return false;
+    match string_stop(bytes, from, end) {
+        Some(stop) => is_stub(&bytes[from + 4..stop]),
+        None => false,
     }
-    let length = u32_at(bytes, from);
-    if end - from - 4 < length {
-        return false;
-    }
-    let start = from + 4;
-    let stop = start + length;
-    is_stub(&bytes[start..stop])
 }
 
 /// Whether a stub string stands after the typecode at a place, before `end`.
@@ -94,14 +85,10 @@ fn stub_after(bytes: &[u8], from: usize, end: usize) -> bool
     requires { (from ≤ end) × (end ≤ length bytes.now) }
     ensures { result ≡ stub_after bytes.now from end }
 {
-    if end - from < 4 {
-        return false;
+    match string_stop(bytes, from, end) {
+        Some(stop) => stub_at(bytes, stop, end),
+        None => false,
     }
-    let length = u32_at(bytes, from);
-    if end - from - 4 < length {
-        return false;
-    }
-    stub_at(bytes, from + 4 + length, end)
 }
 
 /// Whether a record has what its kind needs after its label: kind 1 a typecode and a stub string.
@@ -109,93 +96,49 @@ fn stub_if(bytes: &[u8], kind: usize, from: usize, end: usize) -> bool
     requires { (from ≤ end) × (end ≤ length bytes.now) }
     ensures { result ≡ stub_if kind bytes.now from end }
 {
-    if kind == 1 {
-        return stub_after(bytes, from, end);
-    }
-    true
+    kind != 1 || stub_after(bytes, from, end)
 }
 
 /// The label of a record of this kind at a place, which stops at `after`.
-fn label_in(bytes: &[u8], at: usize, kind: usize, after: usize) -> Framing
+fn label_in(bytes: &[u8], at: usize, kind: usize, after: usize) -> Option<Record>
     requires { (at ≤ after) × (after ≤ length bytes.now) }
     ensures { result ≡ label_in bytes.now at kind after }
 {
-    let place = label_place(kind);
-    if place == 0 {
-        return Framing::Badly;
-    }
-    if after - at < place + 4 {
-        return Framing::Badly;
-    }
-    let label = at + place + 4;
-    let length = u32_at(bytes, at + place);
-    if after - label < length {
-        return Framing::Badly;
-    }
-    let stop = label + length;
+    let place = at + label_place(kind)?;
+    let stop = string_stop(bytes, place, after)?;
     if !stub_if(bytes, kind, stop, after) {
-        return Framing::Badly;
+        return None;
     }
-    Framing::Well(Record {
+    Some(Record {
         kind,
-        label,
+        label: place + 4,
         stop,
         after,
     })
 }
 
-/// The framing of the record at a place.
-pub fn record_at(bytes: &[u8], at: usize) -> Framing
+/// The framing of the record at a place; none if no record stands there that is well framed.
+pub fn record_at(bytes: &[u8], at: usize) -> Option<Record>
     ensures { result ≡ framing bytes.now at }
 {
     if bytes.len() <= at {
-        return Framing::Badly;
+        return None;
     }
-    let rest = bytes.len() - at;
-    if rest < 4 {
-        return Framing::Badly;
-    }
-    let length = u32_at(bytes, at);
-    if length < 2 {
-        return Framing::Badly;
-    }
-    if rest - 4 < length {
-        return Framing::Badly;
+    let after = string_stop(bytes, at, bytes.len())?;
+    if after < at + 6 {
+        return None;
     }
     let kind = u16_at(bytes, at + 4);
-    label_in(bytes, at, kind, at + 4 + length)
+    label_in(bytes, at, kind, after)
 }
 
-/// Whether two parts hold the same bytes.
-pub fn same(a: &[u8], b: &[u8]) -> bool
-    ensures { result ≡ sameb a.now b.now }
-{
-    if a.len() != b.len() {
-        return false;
-    }
-    let mut i = 0;
-    while i < a.len() {
-        if a[i] != b[i] {
-            return false;
-        }
-        i += 1;
-    }
-    true
-}
-
-/// The answer so far, after the record at a place with its own label.
-fn keep_first(found: Found, own: &[u8], label: &[u8], at: u64) -> Found
+/// The record found so far, after the one at a place with its own label.
+fn keep_first(found: Option<u64>, own: &[u8], label: &[u8], at: u64) -> Option<u64>
     ensures { result ≡ kept found (sameb own.now label.now) at }
 {
     match found {
-        Found::At(p) => Found::At(p),
-        Found::Malformed(p) => Found::Malformed(p),
-        Found::Missing => {
-            if same(own, label) {
-                return Found::At(at);
-            }
-            Found::Missing
-        }
+        None if own == label => Some(at),
+        _ => found,
     }
 }
 
@@ -203,16 +146,14 @@ fn keep_first(found: Found, own: &[u8], label: &[u8], at: u64) -> Found
 pub fn lookup(frames: &[u8], label: &[u8]) -> Found
     ensures { result ≡ look_up frames.now label.now }
 {
-    let mut found = Found::Missing;
+    let mut found = None;
     let mut at = 0;
     while at < frames.len() {
-        let Framing::Well(r) = record_at(frames, at) else {
-            return Found::Malformed(at as u64);
+        let Some(r) = record_at(frames, at) else {
+            return Err(Malformed(at as u64));
         };
-        let start = r.label;
-        let stop = r.stop;
-        found = keep_first(found, &frames[start..stop], label, at as u64);
+        found = keep_first(found, &frames[r.label..r.stop], label, at as u64);
         at = r.after;
     }
-    found
+    Ok(found)
 }

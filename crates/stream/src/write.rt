@@ -10,12 +10,7 @@ pub fn put_byte(out: &mut [u8], at: usize, b: u8) -> usize
     requires { at + 1 < 2 ^ 64 }
     ensures { (result ≡ at + 1) × Wrote out.old out.new at result (b ∷ []) }
 {
-    let end = at + 1;
-    if out.len() < end {
-        return end;
-    }
-    out[at] = b;
-    end
+    put_bytes(out, at, &[b])
 }
 
 /// The 16 low bits of a number, low byte first.
@@ -23,15 +18,7 @@ pub fn put_u16(out: &mut [u8], at: usize, n: u64) -> usize
     requires { at + 2 < 2 ^ 64 }
     ensures { (result ≡ at + 2) × Wrote out.old out.new at result (u16 n) }
 {
-    let end = at + 2;
-    if out.len() < end {
-        return end;
-    }
-    let low = n % 256;
-    let high = n / 256 % 256;
-    out[at] = low as u8;
-    out[at + 1] = high as u8;
-    end
+    put_bytes(out, at, &n.to_le_bytes()[..2])
 }
 
 /// The 32 low bits of a number, low byte first.
@@ -39,33 +26,18 @@ pub fn put_u32(out: &mut [u8], at: usize, n: u64) -> usize
     requires { at + 4 < 2 ^ 64 }
     ensures { (result ≡ at + 4) × Wrote out.old out.new at result (u32 n) }
 {
-    let end = at + 4;
-    if out.len() < end {
-        return end;
-    }
-    let n1 = n / 256;
-    let n2 = n1 / 256;
-    let n3 = n2 / 256;
-    out[at] = (n % 256) as u8;
-    out[at + 1] = (n1 % 256) as u8;
-    out[at + 2] = (n2 % 256) as u8;
-    out[at + 3] = (n3 % 256) as u8;
-    end
+    put_bytes(out, at, &n.to_le_bytes()[..4])
 }
 
 /// Bytes.
+#[inline]
 pub fn put_bytes(out: &mut [u8], at: usize, bytes: &[u8]) -> usize
     requires { at + length bytes.now < 2 ^ 64 }
     ensures { (result ≡ at + length bytes.now) × Wrote out.old out.new at result bytes.now }
 {
     let end = at + bytes.len();
-    if out.len() < end {
-        return end;
-    }
-    let mut i = 0;
-    while i < bytes.len() {
-        out[at + i] = bytes[i];
-        i += 1;
+    if end <= out.len() {
+        out[at..end].copy_from_slice(bytes);
     }
     end
 }
@@ -75,8 +47,8 @@ pub fn put_string(out: &mut [u8], at: usize, bytes: &[u8]) -> usize
     requires { at + 4 + length bytes.now < 2 ^ 64 }
     ensures { (result ≡ at + 4 + length bytes.now) × Wrote out.old out.new at result (string bytes.now) }
 {
-    let a = put_u32(out, at, bytes.len() as u64);
-    put_bytes(out, a, bytes)
+    let at = put_u32(out, at, bytes.len() as u64);
+    put_bytes(out, at, bytes)
 }
 
 /// Bytes, the last one with 128 added.
@@ -84,16 +56,11 @@ pub fn put_raised(out: &mut [u8], at: usize, bytes: &[u8]) -> usize
     requires { (at + length bytes.now < 2 ^ 64) × (get_or bytes.now (length bytes.now - 1) 0 < 128) }
     ensures { (result ≡ at + length bytes.now) × Wrote out.old out.new at result (raised bytes.now) }
 {
-    let n = bytes.len();
-    if n == 0 {
+    let Some((last, front)) = bytes.split_last() else {
         return at;
-    }
-    if n == 1 {
-        return put_byte(out, at, bytes[0] + 128);
-    }
-    let last = n - 1;
-    let a = put_bytes(out, at, &bytes[..last]);
-    put_byte(out, a, bytes[last] + 128)
+    };
+    let at = put_bytes(out, at, front);
+    put_byte(out, at, *last + 128)
 }
 
 /// So many zeros.
@@ -102,13 +69,8 @@ pub fn put_zeros(out: &mut [u8], at: usize, n: usize) -> usize
     ensures { (result ≡ at + n) × Wrote out.old out.new at result (replicate n 0) }
 {
     let end = at + n;
-    if out.len() < end {
-        return end;
-    }
-    let mut i = 0;
-    while i < n {
-        out[at + i] = 0;
-        i += 1;
+    if end <= out.len() {
+        out[at..end].fill(0);
     }
     end
 }

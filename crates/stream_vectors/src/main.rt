@@ -3,36 +3,16 @@
 // `make.py` wrote them, and `stdout`, the answers of the paper's model.
 #![tactic(auto)]
 
-ghost use Rattle.std.specs.Prelude.{◌≡◌, ◌≤◌, ◌<◌, length};
-ghost use Rattle.paper.specs.Lookup.{found_number, found_place};
+ghost use Rattle.std.specs.Prelude.{◌≤◌, ◌<◌, length};
 
 use paper::Found;
+use paper::told::{found_number, found_place};
 use stream::walk;
 
-fn number(found: Found) -> u64
-    ensures { result ≡ found_number found }
-{
-    match found {
-        Found::At(_) => 0,
-        Found::Malformed(_) => 10,
-        Found::Missing => 11,
-    }
-}
-
-fn place(found: Found) -> u64
-    ensures { result ≡ found_place found }
-{
-    match found {
-        Found::At(p) => p,
-        Found::Malformed(p) => p,
-        Found::Missing => 0,
-    }
-}
-
 fn write_answer(found: Found) {
-    io::print_decimal(1, number(found));
+    io::print_decimal(1, u64::from(found_number(found)));
     io::write_all(1, b" ");
-    io::print_decimal(1, place(found));
+    io::print_decimal(1, found_place(found));
     io::write_all(1, b"\n");
 }
 

@@ -15,20 +15,20 @@ use Rattle.paper.specs.Statements.{Statement, Item}
 use Rattle.paper.specs.Reader.{Mode, start, named, math, proof, Step, go, stop, many, Outcome, refused, given, finish, ending, items, with_ends, printed, words, reading}
 use Rattle.paper.specs.Frames.{Frame}
 use Rattle.paper.specs.Give.{Given, all_given}
-use Rattle.paper.specs.Answer.{refusal_number, measured_number, crowded, frames_in, Streams, streams, unless_crowded, measured, measured_of, measuring, needs_of, measure, fitting, written, outcome, answer_of, answer}
+use Rattle.paper.specs.Answer.{refusal_number, number, crowded, frames_in, Streams, streams, unless_crowded, measured, measured_of, measuring, measure, fitting, written, outcome, answer_of, answer}
 use Rattle.paper.specs.declared.Setting.{Setting}
 use Rattle.paper.proofs.Tests.{split, by_option}
 use Rattle.theorems.specs.Measured.{written_as, AsMeasured, MeasuredFits, NeverShort}
 use Rattle.theorems.proofs.Refusals.{by_outcome}
 
 -- ---- the writer's answer by the measure's
-by_buffers : (t : List ℕ) (s : Streams) (f d : ℕ) → answer_of t (fitting s f d) ≡ written_as (needs_of t (given s)) f d
+by_buffers : (t : List ℕ) (s : Streams) (f d : ℕ) → answer_of t (fitting s f d) ≡ written_as (answer_of t (given s)) f d
 by_buffers t s f d =
     split (ltb f (length s.frames))
     (λ a. rw a)
     (λ a. split (ltb d (length s.diags)) (λ b. rw (a, b)) (λ b. rw (a, b)))
 
-by_given : (c : Setting) (t : List ℕ) (l : List Given) (f d : ℕ) → answer_of t (written c l f d) ≡ written_as (needs_of t (measured c l)) f d
+by_given : (c : Setting) (t : List ℕ) (l : List Given) (f d : ℕ) → answer_of t (written c l f d) ≡ written_as (answer_of t (measured c l)) f d
 unfolding written measured
 by_given c t l f d =
     by_option (find crowded (frames_in l)) (λ x e. rw e) (λ e. rw e (by_buffers t (streams c l) f d))
@@ -41,9 +41,9 @@ as_measured c t w f d =
 pub measured_fits : MeasuredFits
 measured_fits c t w f d =
     record {
-      done = λ {x} {y} e h k. as_measured c t w f d ∙ rw (e, le-ltb f x h, le-ltb d y k);
-      short_frames = λ {x} e h. as_measured c t w f d ∙ rw (e, lt-ltb f x h);
-      short_diags = λ {x} {y} e h k. as_measured c t w f d ∙ rw (e, le-ltb f x h, lt-ltb d y k);
+      done = λ {s} e h k. as_measured c t w f d ∙ rw (e, le-ltb f s.frames h, le-ltb d s.diags k);
+      short_frames = λ {s} e h. as_measured c t w f d ∙ rw (e, lt-ltb f s.frames h);
+      short_diags = λ {s} e h k. as_measured c t w f d ∙ rw (e, le-ltb f s.frames h, lt-ltb d s.diags k);
       refused = λ e. as_measured c t w f d ∙ rw e;
     }
 
@@ -98,7 +98,7 @@ unfolding measured
 measured_told c (refused r) h = h
 measured_told c (given l) h = crowded_told c (find crowded (frames_in (all_given l))) (all_given l)
 
-number_told : (t : List ℕ) (o : Outcome Streams) → told o ≤ 7 → measured_number (needs_of t o) ≤ 7
+number_told : (t : List ℕ) (o : Outcome Streams) → told o ≤ 7 → number (answer_of t o) ≤ 7
 number_told t (refused r) h = h
 number_told t (given s) h = h
 

@@ -4,10 +4,8 @@ use Rattle.std.specs.Prelude.{◌≡◌, List, ℕ, length, replicate}
 use Rattle.paper.specs.Base.{codes}
 use Rattle.paper.specs.Statements.{Statement}
 use Rattle.paper.specs.Reader.{Outcome, refused, given}
-use Rattle.paper.specs.Answer.{Streams, number, outcome, answer}
+use Rattle.paper.specs.Answer.{Answer, done, Streams, number, outcome, answer}
 use Rattle.paper.specs.declared.Setting.TheVariants.{Full}
-use Rattle.paper.specs.declared.Answer.{Answer}
-use Rattle.paper.specs.declared.Answer.TheVariants.{Done}
 use Rattle.theorems.specs.Groups.{Group, statements, blanked, LabelsApart, SymbolsApart}
 use Rattle.theorems.specs.TakenOut.{streams_without}
 use Rattle.theorems.specs.Demand3.{Blanked}
@@ -56,27 +54,27 @@ nested_text = codes "$c c $. $v x $. f $f c x $. ${ h $e c x $. ${ $d x x $. i $
 
 -- a group in a group, and the group around it
 abbrev pub InnerGroup : Type 0
-InnerGroup = Holds nested_text 43 68 (Done 216 18 3) (Done 216 0 3)
+InnerGroup = Holds nested_text 43 68 (done 216 18 3) (done 216 0 3)
 
 abbrev pub OuterGroup : Type 0
-OuterGroup = Holds nested_text 28 83 (Done 216 18 3) (Done 106 0 2)
+OuterGroup = Holds nested_text 28 83 (done 216 18 3) (done 106 0 2)
 
 -- a nested `$v` that shadows nothing
 abbrev pub variable_text : List ℕ
 variable_text = codes "$c c $. ${ $v x $. f $f c x $. a $a c x $. $} ${ $v x $. g $f c x $. $}"
 
 abbrev pub NestedVariable : Type 0
-NestedVariable = Holds variable_text 8 43 (Done 135 0 3) (Done 29 0 1)
+NestedVariable = Holds variable_text 8 43 (done 135 0 3) (done 29 0 1)
 
 -- a group with a comment at either end, in which stands the other's brace; and an empty group
 abbrev pub comment_text : List ℕ
 comment_text = codes "$c c $. ${ $( $} $) a $a c $. $( ${ $) $} ${ $} b $a c $."
 
 abbrev pub CommentGroup : Type 0
-CommentGroup = Holds comment_text 8 39 (Done 96 0 2) (Done 48 0 1)
+CommentGroup = Holds comment_text 8 39 (done 96 0 2) (done 48 0 1)
 
 abbrev pub EmptyGroup : Type 0
-EmptyGroup = Holds comment_text 42 45 (Done 96 0 2) (Done 96 0 2)
+EmptyGroup = Holds comment_text 42 45 (done 96 0 2) (done 96 0 2)
 
 pub record Examples : Type 0 where
   pub labels_needed : LabelsNeeded

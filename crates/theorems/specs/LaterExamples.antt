@@ -3,11 +3,9 @@
 use Rattle.std.specs.Prelude.{◌≡◌, List, [], ◌∷◌, ◌++◌, ℕ, length}
 use Rattle.paper.specs.Base.{codes}
 use Rattle.paper.specs.Reader.{Outcome, refused, given}
-use Rattle.paper.specs.Answer.{Streams}
+use Rattle.paper.specs.Answer.{Answer, done, not_done, Streams}
 use Rattle.paper.specs.declared.Setting.TheVariants.{Full}
 use Rattle.paper.specs.declared.Refusal.TheVariants.{BadToken}
-use Rattle.paper.specs.declared.Answer.{Answer}
-use Rattle.paper.specs.declared.Answer.TheVariants.{Done, Refused}
 use Rattle.theorems.specs.Later.{Initial, Followed, Quiet, Undisturbed}
 use Rattle.theorems.specs.Examples.{buffer, outcome_of, answer_to}
 
@@ -41,7 +39,7 @@ ConstantNeeded = Disturbs variable_first (variable_first ++ codes " $c x $.")
 pub record Unspaced (t m : List ℕ) (p : ℕ) : Type 0 where
   pub follows : Follows t (t ++ (32 ∷ m))
   pub is_quiet : Quiet t (t ++ (32 ∷ m))
-  pub is_refused : answer_to (t ++ m) ≡ Refused (BadToken p) 1
+  pub is_refused : answer_to (t ++ m) ≡ not_done (BadToken p) 1
 
 abbrev pub SpaceLeftOut : Type 0
 SpaceLeftOut = Unspaced (codes "$c c $.") (codes "$v x $.") 5
@@ -73,14 +71,14 @@ group_first = codes "$c c $. ${ $v x $. f $f c x $. a $a c x $. $}"
 -- a comment, another `$c`, and a group whose `$v` names the same variable
 abbrev pub GroupAdded : Type 0
 GroupAdded =
-    Undisturbing group_first (group_first ++ codes " $( more $) $c d $. ${ $v x $. g $f d x $. b $a d x $. $}") (Done 106 0 2) (Done 212 0 4)
+    Undisturbing group_first (group_first ++ codes " $( more $) $c d $. ${ $v x $. g $f d x $. b $a d x $. $}") (done 106 0 2) (done 212 0 4)
 
 -- an outermost `$v` of the nested variable's name, then a frame of it
 abbrev pub VariableAdded : Type 0
-VariableAdded = Undisturbing group_first (group_first ++ codes " $v x $. g $f c x $.") (Done 106 0 2) (Done 135 0 3)
+VariableAdded = Undisturbing group_first (group_first ++ codes " $v x $. g $f c x $.") (done 106 0 2) (done 135 0 3)
 
 abbrev pub NothingAdded : Type 0
-NothingAdded = Undisturbing group_first (group_first ++ codes " ") (Done 106 0 2) (Done 106 0 2)
+NothingAdded = Undisturbing group_first (group_first ++ codes " ") (done 106 0 2) (done 106 0 2)
 
 pub record LaterExamples : Type 0 where
   pub constant_needed : ConstantNeeded

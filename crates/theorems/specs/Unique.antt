@@ -1,16 +1,13 @@
 -- Uniqueness: any two results that the definitions allow are equal, for measure, writer and look-up.
 -- What they allow is a function of the inputs: the answer, and every lent buffer at exit.
 use Rattle.std.specs.Prelude.{◌≡◌, List, ℕ, length}
-use Rattle.paper.specs.Answer.{measure, answer, frames_exit, diags_exit, work_exit}
-use Rattle.paper.specs.Lookup.{look_up}
+use Rattle.paper.specs.Answer.{Answer, measure, answer, frames_exit, diags_exit, work_exit}
+use Rattle.paper.specs.Lookup.{Found, look_up}
 use Rattle.paper.specs.declared.Setting.{Setting}
-use Rattle.paper.specs.declared.Measured.{Measured}
-use Rattle.paper.specs.declared.Answer.{Answer}
-use Rattle.paper.specs.declared.Found.{Found}
 
 -- ---- the measure
 pub record Measurement : Type 0 where
-  pub measured : Measured
+  pub measured : Answer
   pub work : List ℕ
 
 -- allowed under the setting c for the text t with work area w at entry

@@ -3,14 +3,14 @@
 use mathlib.Core.Path.{◌≡◌, refl, sym, ◌∙◌}
 use mathlib.Core.Bool.{Bool, true, false}
 use mathlib.Core.List.{List, [], ◌∷◌}
-use Prim.Native.Nat.{ℕ, ◌≤◌}
+use Prim.Native.Nat.{ℕ, ◌≤◌, min}
 use native.Mathlib.Omega.{arith}
-use lib.Dec.{eqb, leb, ltb}
-use borrow.Author.Tests.{leb-true, eqb-true, lt-leb, le-leb, ne_eqb, ltb-true, ltb-false, eq-eqb}
+use lib.Dec.{eqb, leb}
+use borrow.Author.Tests.{leb-true, leb-false, eqb-true, lt-leb, le-leb, ne_eqb, eq-eqb}
 use Rattle.paper.specs.Base.{choose, and, or, not, within, all}
 use Rattle.paper.specs.Bytes.{white, printable, label_byte, math_byte}
 use Rattle.paper.proofs.Tests.{split, clash}
-use Rattle.token.specs.Class.{class, lower, least}
+use Rattle.token.specs.Class.{class, least}
 
 -- what holds in both arms of a choice by two tests
 by_or : {P : Type 0} (a b : Bool) → or a b ≡ true → (a ≡ true → P) → (b ≡ true → P) → P
@@ -117,22 +117,20 @@ module _ (b : ℕ) where
   class_label = label_is (white b) (printable b) (eqb b 36) (label_byte b) (white_alone b) label_and
 
 -- the least class is at least k if all are
-leb_lower : (k a b : ℕ) → leb k (lower a b) ≡ and (leb k a) (leb k b)
-leb_lower k a b =
-    split (ltb b a)
-    (λ e. rw e (split (leb k b)
-    (λ p. rw (le-leb k a (omega (arith, ltb-true b a e, leb-true k b p))))
-    (λ p. rw p (split (leb k a) (λ q. rw q) (λ q. rw q)))))
-    (λ e. rw e (split (leb k a)
-    (λ p. rw (p, le-leb k b (omega (arith, ltb-false b a e, leb-true k a p))))
-    (λ p. rw p)))
+leb_min : (k a b : ℕ) → leb k (min a b) ≡ and (leb k a) (leb k b)
+leb_min k a b =
+    split (leb k a)
+    (λ p. rw p (split (leb k b)
+    (λ q. rw q (le-leb k (min a b) (omega (arith, leb-true k a p, leb-true k b q))))
+    (λ q. rw q (lt-leb k (min a b) (omega (arith, leb-false k b q))))))
+    (λ p. rw p (lt-leb k (min a b) (omega (arith, leb-false k a p))))
 
 leb_least : (k : ℕ) (f : ℕ → Bool) → ((b : ℕ) → leb k (class b) ≡ f b) → (l : List ℕ) (a : ℕ) → leb k (least l a) ≡ and (leb k a) (all f l)
 unfolding least all
 leb_least k f h [] a = split (leb k a) (λ e. rw e) (λ e. rw e)
 leb_least k f h (b ∷ l) a =
-    leb_least k f h l (lower a (class b))
-    ∙ rw (leb_lower k a (class b), h b)
+    leb_least k f h l (min a (class b))
+    ∙ rw (leb_min k a (class b), h b)
     (split (leb k a) (λ e. rw e (split (f b) (λ q. rw q) (λ q. rw q))) (λ e. rw e))
 
 pub least_label : (l : List ℕ) → leb 4 (least l 4) ≡ all label_byte l
@@ -148,17 +146,3 @@ module _ (b : ℕ) {c : ℕ} (p : c ≡ class b) where
 
   pub not_white : (c ≡ 1 → ⊥) → white b ≡ false
   not_white n = sym (class_white b) ∙ ne_eqb (class b) 1 (λ e. n (p ∙ e))
-
-  pub is_bad : c ≡ 0 → or (white b) (printable b) ≡ false
-  is_bad e = of_true (or (white b) (printable b)) (sym (class_bad b) ∙ eq-eqb (class b) 0 (sym p ∙ e))
-    where
-      of_true : (x : Bool) → not x ≡ true → x ≡ false
-      of_true true z = absurd (clash (sym z))
-      of_true false z = refl
-
-  pub not_bad : (c ≡ 0 → ⊥) → or (white b) (printable b) ≡ true
-  not_bad n = of_false (or (white b) (printable b)) (sym (class_bad b) ∙ ne_eqb (class b) 0 (λ e. n (p ∙ e)))
-    where
-      of_false : (x : Bool) → not x ≡ false → x ≡ true
-      of_false true z = refl
-      of_false false z = absurd (clash z)

@@ -3,7 +3,7 @@
 use mathlib.Core.Path.{◌≡◌, refl, sym, ap, ◌∙◌}
 use mathlib.Core.Bool.{Bool, true, false}
 use mathlib.Core.List.{List, [], ◌∷◌}
-use mathlib.Core.Option.{none, some}
+use mathlib.Core.Option.{none}
 use Prim.Native.Nat.{ℕ, suc, ◌+◌, ◌-◌, ◌<◌, ◌≤◌, zero-le}
 use native.Mathlib.Nat.{add-zero}
 use native.Mathlib.Numerals.{add-one}
@@ -14,16 +14,17 @@ use lib.Seq.{drop-cons}
 use Rattle.paper.specs.Base.{or}
 use Rattle.paper.specs.Bytes.{white, printable}
 use Rattle.paper.specs.Tokens.{run, toks, tokens, bad_from}
+use Rattle.std.specs.Int.{from_bool}
 use Rattle.paper.proofs.Tests.{split}
 use Rattle.token.specs.Class.{class}
 use Rattle.token.specs.Words.{tokens_from}
-use Rattle.token.specs.Count.{bit, starts, bads, tally_of, bad_of, count_of}
-use Rattle.token.specs.declared.count.Bad.{Bad}
-use Rattle.token.specs.declared.count.Bad.TheVariants.{Nowhere}
+use Rattle.token.specs.Count.{starts, bads, tally_of, bad_of, count_of}
+use Rattle.std.specs.Prelude.{Option, None}
+use Rattle.std.specs.List.{position_from}
 use Rattle.token.specs.declared.count.Tally.{Tally}
 use Rattle.token.proofs.Classes.{class_white, class_bad}
 
-pub bit_le : (b : Bool) → bit b ≤ 1
+pub bit_le : (b : Bool) → from_bool b ≤ 1
 bit_le true = omega arith
 bit_le false = omega arith
 
@@ -40,7 +41,7 @@ starts_toks (b ∷ l) o =
 starts_le : (l : List ℕ) (w : ℕ) → starts l w ≤ length l
 unfolding starts
 starts_le [] w = zero-le
-starts_le (b ∷ l) w = omega (arith, starts_le l (bit (eqb (class b) 1)), bit_le (ltb (bit (eqb (class b) 1)) w))
+starts_le (b ∷ l) w = omega (arith, starts_le l (from_bool (eqb (class b) 1)), bit_le (ltb (from_bool (eqb (class b) 1)) w))
 
 -- there are no more tokens than bytes
 pub tokens_few : (t : List ℕ) (i : ℕ) → length (tokens_from t i) ≤ length t - i
@@ -63,19 +64,13 @@ none_bad (b ∷ l) o h =
     (λ e. rw e (none_bad l (suc o) (omega (arith, h))))
     (λ e. let z : 1 + bads l ≡ 0 = rw (class_bad b, e) at h in absurd (omega arith))
 
--- the first bad byte, byte by byte
-module _ (t : List ℕ) (i : ℕ) where
-  pub bad_end : length t ≤ i → bad_from (drop i t) i ≡ none
-  unfolding bad_from
-  bad_end h = rw drop_of_length-le
-
-  pub bad_here : i < length t → or (white (get_or t i 0)) (printable (get_or t i 0)) ≡ false → bad_from (drop i t) i ≡ some i
-  unfolding bad_from
-  bad_here h e = rw (drop-cons t i 0, e)
-
-  pub bad_step : i < length t → or (white (get_or t i 0)) (printable (get_or t i 0)) ≡ true → bad_from (drop (i + 1) t) (i + 1) ≡ bad_from (drop i t) i
-  unfolding bad_from
-  bad_step h e = rw (add-one, drop-cons t i 0, e)
+-- the first byte of the bad class is the first bad byte
+pub bad_position : (l : List ℕ) (o : ℕ) → position_from (λ (b : ℕ). eqb (class b) 0) o l ≡ bad_of (bad_from l o)
+unfolding bad_from
+bad_position [] o = refl
+bad_position (b ∷ l) o =
+    rw (class_bad b, add-one)
+    (split (or (white b) (printable b)) (λ e. rw e (bad_position l (suc o))) (λ e. rw e))
 
 -- the pass at byte i: n tokens and k bad bytes before it, and w for the byte before it
 pub record Tallied (t : List ℕ) (n k w i : ℕ) : Type 0 where
@@ -84,11 +79,8 @@ pub record Tallied (t : List ℕ) (n k w i : ℕ) : Type 0 where
   pub few : n ≤ i
   pub rare : k ≤ i
 
-pub tally_start : (t : List ℕ) → Tallied t 0 0 1 0
-tally_start t = record { count = omega arith; bad = omega arith; few = omega arith; rare = omega arith }
-
 pub tally_step : {t : List ℕ} {n k w i c v p q : ℕ} → Tallied t n k w i → i < length t → c ≡ class (get_or t i 0)
-    → v ≡ bit (eqb c 1) → p ≡ bit (ltb v w) → q ≡ bit (eqb c 0) → Tallied t (n + p) (k + q) v (i + 1)
+    → v ≡ from_bool (eqb c 1) → p ≡ from_bool (ltb v w) → q ≡ from_bool (eqb c 0) → Tallied t (n + p) (k + q) v (i + 1)
 unfolding starts bads
 tally_step {t} {n} {k} {w} {i} {c} {v} {p} {q} h l ec ev ep eq =
     let a : n + (p + starts (drop (suc i) t) v) ≡ starts t 1 = rw (ep, ev, ec) (rw (drop-cons t i 0) at h.count) in
@@ -109,10 +101,10 @@ tally_end {t} {n} {k} {w} {i} h l =
 
 -- the answer, by whether a bad byte was met
 module _ (t : List ℕ) (x : Tally) (p : x ≡ tally_of t) where
-  pub all_good : x.bads ≡ 0 → record { tokens = x.tokens; bad = Nowhere } ≡ count_of t
+  pub all_good : x.bads ≡ 0 → record { tokens = x.tokens; bad = None } ≡ count_of t
   all_good z =
       let q : bads t ≡ 0 = sym (ap (λ (y : Tally). y.bads) p) ∙ z in
       rw (p, none_bad t 0 q, starts_tokens t)
 
-  pub one_bad : (b : Bad) → b ≡ bad_of (bad_from t 0) → record { tokens = x.tokens; bad = b } ≡ count_of t
+  pub one_bad : (b : Option ℕ) → b ≡ bad_of (bad_from t 0) → record { tokens = x.tokens; bad = b } ≡ count_of t
   one_bad b e = rw (p, e, starts_tokens t)

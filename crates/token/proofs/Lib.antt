@@ -1,5 +1,6 @@
 pub mod Classes
 pub mod Words
+pub mod Keys
 pub mod Lines
 pub mod Read
 pub mod Counts

@@ -3,7 +3,7 @@
 use mathlib.Core.Path.{◌≡◌, refl, ap, ◌∙◌}
 use mathlib.Core.Bool.{true, false}
 use mathlib.Core.List.{List, [], ◌∷◌}
-use Prim.Native.Nat.{ℕ, suc, ◌+◌, ◌-◌, ◌<◌, ◌≤◌, zero-le, suc-le-suc}
+use Prim.Native.Nat.{ℕ, suc, ◌+◌, ◌-◌, ◌<◌, ◌≤◌, min, zero-le, suc-le-suc}
 use native.Mathlib.Nat.{add-zero, add-suc, suc-add, not-suc-le-zero}
 use native.Mathlib.Numerals.{add-one}
 use native.Mathlib.Omega.{arith}
@@ -12,7 +12,7 @@ use lib.Seq.{drop-cons, drop-drop, drop-length, get_or-drop}
 use Rattle.paper.specs.Bytes.{white}
 use Rattle.paper.specs.Tokens.{Token, put, run, toks}
 use Rattle.paper.proofs.Tests.{split}
-use Rattle.token.specs.Class.{class, lower, least}
+use Rattle.token.specs.Class.{class, least}
 use Rattle.token.specs.Words.{gap, word, past_gap, span_from, tokens_from}
 use Rattle.token.specs.declared.cursor.Cursor.{Cursor}
 
@@ -39,7 +39,7 @@ module _ (t : List ℕ) (i : ℕ) where
   span_stop c a h e = rw (drop-cons t i 0, e, add-zero)
 
   pub span_step : (c : Cursor) (a : ℕ) → i < length t → white (get_or t i 0) ≡ false
-      → span_from t c (i + 1) (lower a (class (get_or t i 0))) ≡ span_from t c i a
+      → span_from t c (i + 1) (min a (class (get_or t i 0))) ≡ span_from t c i a
   unfolding word least span_from
   span_step c a h e = rw (add-one, drop-cons t i 0, e, add-suc, suc-add)
 

@@ -1,6 +1,6 @@
 -- Tokens by offsets: where the white space at an offset stops, where the token there stops, and the tokens from an offset on.
 -- What the cursor answers is the first of those tokens with its line; `Spans` and `Read` say all that a crate above needs of it.
-use Rattle.std.specs.Prelude.{◌≡◌, true, List, [], ◌∷◌, ℕ, suc, ◌+◌, ◌-◌, ◌<◌, ◌≤◌, leb, length, get_or, take, drop}
+use Rattle.std.specs.Prelude.{◌≡◌, true, Option, Some, None, List, [], ◌∷◌, ℕ, suc, ◌+◌, ◌-◌, ◌<◌, ◌≤◌, leb, length, get_or, take, drop}
 use Rattle.paper.specs.Base.{choose}
 use Rattle.paper.specs.Bytes.{white}
 use Rattle.paper.specs.Tokens.{Token, toks, label_token, math_token}
@@ -8,8 +8,6 @@ use Rattle.paper.specs.Lines.{line_at}
 use Rattle.token.specs.Class.{least}
 use Rattle.token.specs.declared.cursor.Span.{Span}
 use Rattle.token.specs.declared.cursor.Cursor.{Cursor}
-use Rattle.token.specs.declared.cursor.Next.{Next}
-use Rattle.token.specs.declared.cursor.Next.TheVariants as next
 
 -- how many of the first bytes are white space, and those of the first bytes that are not
 unfoldable pub gap : List ℕ → ℕ
@@ -51,9 +49,9 @@ abbrev pub span_of : List ℕ → Token → Span
 span_of t x = record { start = x.at; stop = x.at + length x.bytes; least = least x.bytes 4; line = line_at t x.at }
 
 -- no token holds byte 10, so the cursor after it has its line
-abbrev pub next_of : List ℕ → List Token → Next
-next_of t [] = next.Done
-next_of t (x ∷ r) = next.Token (span_of t x) (record { at = x.at + length x.bytes; line = line_at t x.at })
+abbrev pub next_of : List ℕ → List Token → Option (Span × Cursor)
+next_of t [] = None
+next_of t (x ∷ r) = Some (span_of t x, record { at = x.at + length x.bytes; line = line_at t x.at })
 
 -- a span that is a token of the text
 pub record Spans (t : List ℕ) (x : Span) : Type 0 where

@@ -1,9 +1,19 @@
 // The class of a byte, from a table whose rule is proved once over the whole table.
 // 0 neither white space nor printable, 1 white space, 2 `$`, 3 another printable byte, 4 a byte of a label.
 ghost use Rattle.std.specs.Prelude.{◌≡◌};
-ghost use Rattle.token.specs.Class.{class, classes};
+ghost use Rattle.token.specs.Class.{class};
 
-const CLASS: [u8; 256] = [
+/// The class of a byte that no text may have, and of white space.
+pub const BAD: u8 = 0;
+
+pub const WHITE: u8 = 1;
+
+/// The least classes of a byte of a math token and of one of a label.
+pub const MATH: u8 = 3;
+
+pub const LABEL: u8 = 4;
+
+static CLASS: [u8; 256] = [
     0, 0, 0, 0, 0, 0, 0, 0, 0, 1, // tab
     1, // line feed
     0, 1, // form feed
@@ -28,17 +38,9 @@ const CLASS: [u8; 256] = [
     0, 0, 0, 0, 0, 0, 0, 0, 0, 0, 0, 0, 0, 0, 0, 0, 0, 0, 0, 0, 0, 0, 0, 0, 0, 0, 0, 0, 0, 0, 0, 0,
 ];
 
-/// The table. A constant array is built anew at each mention, so a pass asks for it once.
-pub fn table() -> [u8; 256]
-    ensures { result ≡ classes }
-{
-    CLASS
-}
-
-/// The class of a byte, by a copy of the table.
-pub fn class_of(table: &[u8; 256], b: u8) -> u8
-    requires { table.now ≡ classes }
+/// The class of a byte.
+pub fn class_of(b: u8) -> u8
     ensures { result ≡ class b }
 {
-    table[b as usize]
+    CLASS[b as usize]
 }

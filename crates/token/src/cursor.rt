@@ -2,11 +2,10 @@
 // A cursor has the line of its place. No bound is asked of it: past the end of the text there is nothing.
 ghost use Rattle.std.specs.Prelude.{◌≡◌, [], ◌∷◌, length, get_or, ◌+◌, ◌<◌, ◌≤◌};
 ghost use Rattle.paper.specs.Base.{sameb};
-ghost use Rattle.paper.specs.Lines.{feed, line_at};
-ghost use Rattle.token.specs.Class.{classes, lower};
+ghost use Rattle.paper.specs.Lines.{feeds, line_at};
 ghost use Rattle.token.specs.Words.{past_gap, Lined, span_from, tokens_from, next_of};
 
-use crate::class::class_of;
+use crate::class::{LABEL, WHITE, class_of};
 
 /// The byte that ends a line, and no other does.
 pub const FEED: u8 = 10;
@@ -44,22 +43,17 @@ pub const KEY_COMMENT_END: [u8; 2] = [b'$', b')'];
 pub fn is_key(s: &[u8], key: [u8; 2]) -> bool
     ensures { result ≡ sameb s.now (get_or key 0 0 ∷ get_or key 1 0 ∷ []) }
 {
-    if s.len() != 2 {
-        return false;
-    }
-    if s[0] != key[0] {
-        return false;
-    }
-    s[1] == key[1]
+    s == key.as_slice()
 }
 
-/// Where a token starts and stops, its line, and the least class of its bytes: 4 for a label token, 3 or 4 for a math token.
+/// Where a token starts and stops, its line, and the least class of its bytes: `LABEL` for a label token, `MATH` or `LABEL` for a math token.
+/// The class is a wide number, so that no byte of a span is padding: padding made each answer through `Result` wait.
 #[derive(Clone, Copy)]
 pub struct Span {
     pub start: usize,
     pub stop: usize,
     pub line: u64,
-    pub least: u8,
+    pub least: u64,
 }
 
 /// A place in a text, and its line.
@@ -69,45 +63,17 @@ pub struct Cursor {
     pub line: u64,
 }
 
-/// What stands next: a token, with the cursor after it, or no more.
-#[derive(Clone, Copy)]
-pub enum Next {
-    Token(Span, Cursor),
-    Done,
-}
+/// How many bytes are counted at once: so few that 16 bits hold the count of their line feeds.
+const LEG: usize = 32768;
 
-/// The lower one of two classes.
-pub fn lower_of(a: u8, b: u8) -> u8
-    ensures { result ≡ lower a b }
+/// How many line feeds some bytes hold. In 16 bits the back end counts many bytes at once.
+fn feeds_in(leg: &[u8]) -> u16
+    requires { length leg.now ≤ 32768 }
+    ensures { (result ≡ feeds leg.now) × (result ≤ 32768) }
 {
-    if b < a { b } else { a }
-}
-
-/// 1 for a line feed, 0 for any other byte.
-pub fn feed_bit(b: u8) -> u8
-    ensures { (result ≡ feed b) × (result ≤ 1) }
-{
-    if b == FEED { 1 } else { 0 }
-}
-
-/// How far a hop from `at` to `to` goes at once: at most 32,768 bytes.
-pub fn leg_end(at: usize, to: usize) -> usize
-    requires { at < to }
-    ensures { (at < result) × (result ≤ to) × (result ≤ at + 32768) }
-{
-    if to - at < 32768 { to } else { at + 32768 }
-}
-
-/// How many line feeds stand from `at` up to `to`: so few that 16 bits hold them, and the back end counts many bytes at once.
-pub fn feeds_between(text: &[u8], at: usize, to: usize) -> u16
-    requires { (at ≤ to) × (to ≤ length text.now) × (to ≤ at + 32768) }
-    ensures { (line_at text.now at + result ≡ line_at text.now to) × (result ≤ 32768) }
-{
-    let mut sum: u16 = 0;
-    let mut i = at;
-    while i < to {
-        sum += feed_bit(text[i]) as u16;
-        i += 1;
+    let mut sum = 0;
+    for &b in leg {
+        sum += u16::from(b == FEED);
     }
     sum
 }
@@ -125,79 +91,71 @@ impl Cursor {
         requires { Lined text.now self × (self.at ≤ to) × (to ≤ length text.now) }
         ensures { (result.at ≡ to) × Lined text.now result }
     {
-        let mut at = self.at;
         let mut line = self.line;
-        while at < to {
-            let stop = leg_end(at, to);
-            line += feeds_between(text, at, stop) as u64;
-            at = stop;
+        for leg in text[self.at..to].chunks(LEG) {
+            line += u64::from(feeds_in(leg));
         }
-        Cursor { at: to, line: line }
+        Cursor { at: to, line }
     }
 
     /// The cursor past the white space that stands here.
-    pub fn skip_white(mut self, table: &[u8; 256], text: &[u8]) -> Self
-        requires { (table.now ≡ classes) × Lined text.now self }
+    pub fn skip_white(mut self, text: &[u8]) -> Self
+        requires { Lined text.now self }
         ensures { (result.at ≡ past_gap text.now self.at) × Lined text.now result }
     {
-        let mut at = self.at;
         let mut line = self.line;
-        while at < text.len() {
+        for at in self.at..text.len() {
             let b = text[at];
-            if class_of(table, b) != 1 {
+            if class_of(b) != WHITE {
                 self.at = at;
                 self.line = line;
                 return self;
             }
-            line += feed_bit(b) as u64;
-            at += 1;
+            line += u64::from(b == FEED);
         }
-        self.at = at;
+        self.at = self.at.max(text.len());
         self.line = line;
         self
     }
 
     /// The token that stands here, up to white space or the end of the text.
-    pub fn to_white(self, table: &[u8; 256], text: &[u8]) -> Span
-        requires { table.now ≡ classes }
+    pub fn to_white(self, text: &[u8]) -> Span
         ensures { result ≡ span_from text.now self self.at 4 }
     {
-        let start = self.at;
-        let line = self.line;
-        let mut at = start;
-        let mut least: u8 = 4;
-        while at < text.len() {
-            let c = class_of(table, text[at]);
-            if c == 1 {
-                return Span {
-                    start: start,
-                    stop: at,
-                    line: line,
-                    least: least,
-                };
+        let mut least = LABEL;
+        for at in self.at..text.len() {
+            let c = class_of(text[at]);
+            if c == WHITE {
+                return self.span(at, least);
             }
-            least = lower_of(least, c);
-            at += 1;
+            least = least.min(c);
         }
+        self.span(self.at.max(text.len()), least)
+    }
+
+    /// The token from here up to `stop`.
+    fn span(self, stop: usize, least: u8) -> Span
+        ensures { result ≡ record { start = self.at; stop = stop; line = self.line; least = least } }
+    {
         Span {
-            start: start,
-            stop: at,
-            line: line,
-            least: least,
+            start: self.at,
+            stop,
+            line: self.line,
+            least: u64::from(least),
         }
     }
 
-    /// The first token from here on, and the cursor after it.
-    pub fn next(mut self, table: &[u8; 256], text: &[u8]) -> Next
-        requires { (table.now ≡ classes) × Lined text.now self }
+    /// The first token from here on, and the cursor after it; none if there is no more.
+    pub fn next(mut self, text: &[u8]) -> Option<(Span, Cursor)>
+        requires { Lined text.now self }
         ensures { result ≡ next_of text.now (tokens_from text.now self.at) }
     {
-        self = self.skip_white(table, text);
+        self = self.skip_white(text);
         if text.len() <= self.at {
-            return Next::Done;
+            return None;
         }
-        let x = self.to_white(table, text);
+        let x = self.to_white(text);
         self.at = x.stop;
-        Next::Token(x, self)
+        Some((x, self))
     }
 }

@@ -1,5 +1,5 @@
 // Byte classes, keywords and the token cursor; N and the first bad byte.
-// A pass copies the table of classes once by `table` and lends it to all that it calls.
+// The table of classes stands once in memory, and each byte is looked up there.
 #![tactic(auto)]
 
 pub mod class;

@@ -1,54 +1,50 @@
 -- Matches one after the other: a word, the symbols for a variable, the tokens of a statement.
 -- Assumes nothing.
 use mathlib.Core.Path.{◌≡◌, refl, sym, ap, ◌∙◌}
-use mathlib.Core.Bool.{true, false}
+use mathlib.Core.Bool.{Bool, true, false}
 use mathlib.Core.List.{List, [], ◌∷◌, ◌++◌, append_assoc, append-nil}
 use Prim.Native.Nat.{ℕ, suc, ◌+◌, ◌<◌, ◌≤◌}
 use native.Mathlib.Numerals.{add-one}
 use lib.ListN.{length, get_or, take, drop, drop_of_length-le, take-append-drop}
 use lib.Seq.{drop-cons, take_all}
 use borrow.Author.Tests.{eq-eqb, ne_eqb}
+use Rattle.std.specs.Prelude.{Option, Some, None, MatchOption}
 use Rattle.paper.specs.Base.{gather}
 use Rattle.paper.proofs.Lists.{gather_append}
 use Rattle.paper.proofs.Gather.{gather_more}
 use Rattle.unify.specs.Entries.{flag, plain, agrees}
 use Rattle.unify.specs.Bound.{start_of, constant_word, token_words, spread, is_entry}
 use Rattle.unify.specs.Matches.{left_of, Matches}
-use Rattle.unify.specs.declared.Matched.{Matched}
-use Rattle.unify.specs.declared.Matched.TheVariants.{Upto, Differs}
 use Rattle.unify.proofs.Entries.{plain_end, plain_flag, plain_more}
 
-pub match_none : (l : List ℕ) (p : ℕ) → Matches [] l p (Upto p)
+pub match_none : (l : List ℕ) (p : ℕ) → Matches [] l p (Some p)
 match_none l p = record { rest = λ m. refl }
 
-pub match_then : {x l : List ℕ} {p q : ℕ} (y : List ℕ) (r : Matched) → Matches x l p (Upto q) → Matches y l q r → Matches (x ++ y) l p r
+pub match_then : {x l : List ℕ} {p q : ℕ} (y : List ℕ) (r : Option ℕ) → Matches x l p (Some q) → Matches y l q r → Matches (x ++ y) l p r
 match_then {x} {l} {p} {q} y r a b =
     record {
       rest = λ m. ap (λ (z : List ℕ). agrees z (drop p l)) (append_assoc x y m) ∙ a.rest (y ++ m) ∙ b.rest m;
     }
 
-pub match_differs : {x l : List ℕ} {p : ℕ} (y : List ℕ) → Matches x l p Differs → Matches (x ++ y) l p Differs
+pub match_differs : {x l : List ℕ} {p : ℕ} (y : List ℕ) → Matches x l p None → Matches (x ++ y) l p None
 match_differs {x} {l} {p} y a =
     record { rest = λ m. ap (λ (z : List ℕ). agrees z (drop p l)) (append_assoc x y m) ∙ a.rest (y ++ m) }
 
-pub match_as : {x l : List ℕ} {p : ℕ} {r s : Matched} → r ≡ s → Matches x l p r → Matches x l p s
-match_as e a = rw e at a
-
 -- nothing is left
-pub match_whole : {x l : List ℕ} {p : ℕ} (r : Matched) → Matches x l p r → agrees x (drop p l) ≡ left_of r [] l
+pub match_whole : {x l : List ℕ} {p : ℕ} (r : Option ℕ) → Matches x l p r → agrees x (drop p l) ≡ left_of r [] l
 match_whole {x} {l} {p} r a = ap (λ (z : List ℕ). agrees z (drop p l)) (sym (append-nil x)) ∙ a.rest []
 
 -- ---- one word
 module _ (l : List ℕ) (x p : ℕ) where
-  pub word_end : length l ≤ p → Matches (x ∷ []) l p Differs
+  pub word_end : length l ≤ p → Matches (x ∷ []) l p None
   unfolding agrees
   word_end h = record { rest = λ m. rw (drop_of_length-le l h) }
 
-  pub word_differs : p < length l → (x ≡ get_or l p 0 → ⊥) → Matches (x ∷ []) l p Differs
+  pub word_differs : p < length l → (x ≡ get_or l p 0 → ⊥) → Matches (x ∷ []) l p None
   unfolding agrees
   word_differs h n = record { rest = λ m. rw (drop-cons l p 0 h, ne_eqb x (get_or l p 0) n) }
 
-  pub word_agrees : p < length l → x ≡ get_or l p 0 → Matches (x ∷ []) l p (Upto (p + 1))
+  pub word_agrees : p < length l → x ≡ get_or l p 0 → Matches (x ∷ []) l p (Some (p + 1))
   unfolding agrees
   word_agrees h e = record { rest = λ m. rw (add-one p, drop-cons l p 0 h, eq-eqb x (get_or l p 0) e) }
 
@@ -60,30 +56,29 @@ pub part_start : (l : List ℕ) (s p : ℕ) → PartLeft l s p s p
 part_start l s p = record { left = λ m. refl }
 
 module _ {l : List ℕ} {s p i q : ℕ} (a : PartLeft l s p i q) where
-  part_done : plain (drop i l) ≡ [] → Matches (plain (drop s l)) l p (Upto q)
+  part_done : plain (drop i l) ≡ [] → Matches (plain (drop s l)) l p (Some q)
   part_done e = record { rest = λ m. a.left m ∙ ap (λ (z : List ℕ). agrees (z ++ m) (drop q l)) e }
 
-  pub part_flag : i < length l → flag ≤ get_or l i 0 → Matches (plain (drop s l)) l p (Upto q)
+  pub part_flag : i < length l → flag ≤ get_or l i 0 → Matches (plain (drop s l)) l p (Some q)
   part_flag h f = part_done (plain_flag l i h f)
 
-  pub part_end : length l ≤ i → Matches (plain (drop s l)) l p (Upto q)
+  pub part_end : length l ≤ i → Matches (plain (drop s l)) l p (Some q)
   part_end h = part_done (plain_end l i h)
 
-  part_word : (r : Matched) → i < length l → get_or l i 0 < flag → Matches (get_or l i 0 ∷ []) l q r → (m : List ℕ) → agrees (plain (drop s l) ++ m) (drop p l) ≡ left_of r (plain (drop (suc i) l) ++ m) l
+  part_word : (r : Option ℕ) → i < length l → get_or l i 0 < flag → Matches (get_or l i 0 ∷ []) l q r → (m : List ℕ) → agrees (plain (drop s l) ++ m) (drop p l) ≡ left_of r (plain (drop (suc i) l) ++ m) l
   part_word r h f b m =
       a.left m
       ∙ ap (λ (z : List ℕ). agrees (z ++ m) (drop q l)) (plain_more l i h f)
       ∙ b.rest (plain (drop (suc i) l) ++ m)
 
-  pub part_differs : i < length l → get_or l i 0 < flag → Matches (get_or l i 0 ∷ []) l q Differs → Matches (plain (drop s l)) l p Differs
-  part_differs h f b = record { rest = part_word Differs h f b }
+  pub part_differs : i < length l → get_or l i 0 < flag → Matches (get_or l i 0 ∷ []) l q None → Matches (plain (drop s l)) l p None
+  part_differs h f b = record { rest = part_word None h f b }
 
-  pub part_more : i < length l → get_or l i 0 < flag → Matches (get_or l i 0 ∷ []) l q (Upto (q + 1)) → PartLeft l s p (i + 1) (q + 1)
-  part_more h f b =
+  pub part_more : {k : ℕ} → i < length l → get_or l i 0 < flag → Matches (get_or l i 0 ∷ []) l q (Some k) → PartLeft l s p (i + 1) k
+  part_more {k} h f b =
       record {
         left = λ m.
-            part_word (Upto (q + 1)) h f b m
-            ∙ ap (λ (k : ℕ). agrees (plain (drop k l) ++ m) (drop (q + 1) l)) (sym (add-one i));
+            part_word (Some k) h f b m ∙ ap (λ (j : ℕ). agrees (plain (drop j l) ++ m) (drop k l)) (sym (add-one i));
       }
 
 -- ---- what a token stands for
@@ -113,16 +108,16 @@ module _ (w : List ℕ) (n : ℕ) (l : List ℕ) where
   spread_all r i h = ap (spread w n l) (take_all i r h)
 
 -- ---- the tokens one after the other
-module _ (w : List ℕ) (n : ℕ) (l r : List ℕ) (i : ℕ) {p q : ℕ} (a : Matches (spread w n l (take i r)) l p (Upto q)) where
-  pub tokens_more : (k : ℕ) → i < length r → Matches (token_words w n l (get_or r i 0)) l q (Upto k) → Matches (spread w n l (take (i + 1) r)) l p (Upto k)
-  tokens_more k h b = rw (spread_more w n l r i h) (match_then (token_words w n l (get_or r i 0)) (Upto k) a b)
+module _ (w : List ℕ) (n : ℕ) (l r : List ℕ) (i : ℕ) {p q : ℕ} (a : Matches (spread w n l (take i r)) l p (Some q)) where
+  pub tokens_more : (k : ℕ) → i < length r → Matches (token_words w n l (get_or r i 0)) l q (Some k) → Matches (spread w n l (take (i + 1) r)) l p (Some k)
+  tokens_more k h b = rw (spread_more w n l r i h) (match_then (token_words w n l (get_or r i 0)) (Some k) a b)
 
-  pub tokens_differ : i < length r → Matches (token_words w n l (get_or r i 0)) l q Differs → Matches (spread w n l r) l p Differs
+  pub tokens_differ : i < length r → Matches (token_words w n l (get_or r i 0)) l q None → Matches (spread w n l r) l p None
   tokens_differ h b =
-      let c : Matches (spread w n l (take (i + 1) r)) l p Differs = rw (spread_more w n l r i h) (match_then (token_words w n l (get_or r i 0)) Differs a b) in
+      let c : Matches (spread w n l (take (i + 1) r)) l p None = rw (spread_more w n l r i h) (match_then (token_words w n l (get_or r i 0)) None a b) in
       rw (spread_split w n l r (i + 1)) at (match_differs (spread w n l (drop (i + 1) r)) c)
 
-  pub tokens_end : length r ≤ i → Matches (spread w n l r) l p (Upto q)
+  pub tokens_end : length r ≤ i → Matches (spread w n l r) l p (Some q)
   tokens_end h = rw (spread_all w n l r i h) at a
 
 -- ---- an entry
@@ -131,6 +126,11 @@ module _ (w : List ℕ) (n c : ℕ) (r l : List ℕ) (i : ℕ) where
   unfolding is_entry
   entry_other e = rw (ne_eqb (get_or l i 0) (c + flag) e)
 
-  pub entry_is : (x : Matched) → get_or l i 0 ≡ c + flag → Matches (spread w n l r) l (i + 1) x → is_entry w n c r l i ≡ left_of x [] l
+  pub entry_is : (x : Option ℕ) → get_or l i 0 ≡ c + flag → Matches (spread w n l r) l (i + 1) x → is_entry w n c r l i ≡ left_of x [] l
   unfolding is_entry
   entry_is x e a = rw (eq-eqb (get_or l i 0) (c + flag) e) (match_whole x a)
+
+  -- what matched is the entry if it stops there
+  pub entry_stops : (x : Option ℕ) (b : Bool) → get_or l i 0 ≡ c + flag → Matches (spread w n l r) l (i + 1) x → MatchOption x (b ≡ false) (λ q. b ≡ agrees [] (drop q l)) → b ≡ is_entry w n c r l i
+  entry_stops None b e a f = f ∙ sym (entry_is None e a)
+  entry_stops (Some q) b e a f = f ∙ sym (entry_is (Some q) e a)

@@ -6,6 +6,7 @@ use Prim.Native.Nat.{ℕ, ◌+◌, ◌<◌, ◌≤◌}
 use native.Mathlib.Omega.{arith}
 use lib.ListN.{length, take, drop, length-append, length-map}
 use lib.Seq.{length-take-le, drop_at}
+use Rattle.std.specs.Prelude.{Some, None}
 use Rattle.paper.specs.Base.{gather}
 use Rattle.paper.specs.State.{Formula}
 use Rattle.paper.specs.Steps.{size, sizes}
@@ -14,7 +15,6 @@ use Rattle.paper.proofs.Gather.{gather_one}
 use Rattle.unify.specs.Entries.{entry_of}
 use Rattle.unify.specs.Packed.{symbol_word, body_words, formula_words, packed}
 use Rattle.unify.specs.Pushes.{Pushes, Moved}
-use Rattle.unify.specs.declared.Placed.TheVariants.{Upto, NoRoom}
 
 module _ (a : List ℕ → ℕ) where
   packed_more : (st : List Formula) (f : Formula) → packed a st ++ formula_words a f ≡ packed a (st ++ (f ∷ []))
@@ -24,11 +24,11 @@ module _ (a : List ℕ → ℕ) where
       ∙ sym (gather_append (formula_words a) st (f ∷ []))
 
   -- ---- a formula is pushed
-  pub top_pushed : {l m : List ℕ} {top q : ℕ} (st : List Formula) (f : Formula) → take top l ≡ packed a st → Pushes l m top (Upto q) (formula_words a f) → take q m ≡ packed a (st ++ (f ∷ []))
+  pub top_pushed : {l m : List ℕ} {top q : ℕ} (st : List Formula) (f : Formula) → take top l ≡ packed a st → Pushes l m top (Some q) (formula_words a f) → take q m ≡ packed a (st ++ (f ∷ []))
   top_pushed st f e p = p.done.front ∙ ap (λ (x : List ℕ). x ++ formula_words a f) e ∙ packed_more st f
 
   -- what was pushed is moved down over the entries that were taken; those of st stay
-  pub top_moved : {l m o : List ℕ} {base top q r : ℕ} (st : List Formula) (f : Formula) → top ≤ length l → take base m ≡ packed a st → Pushes l m top (Upto q) (formula_words a f) → Moved m o base top q r
+  pub top_moved : {l m o : List ℕ} {base top q r : ℕ} (st : List Formula) (f : Formula) → top ≤ length l → take base m ≡ packed a st → Pushes l m top (Some q) (formula_words a f) → Moved m o base top q r
       → take r o ≡ packed a (st ++ (f ∷ []))
   top_moved {l} {m} {o} {base} {top} {q} {r} st f h e p x =
       x.front
@@ -48,10 +48,10 @@ module _ (a : List ℕ → ℕ) where
       omega (arith, length-append (formula_words a f) (gather (formula_words a) st), length_words f, length_packed st)
 
   -- there is no room exactly where the symbols held and those pushed exceed the stack
-  pub exceeded : {l m : List ℕ} {top : ℕ} (st : List Formula) (f : Formula) → top ≤ length l → take top l ≡ packed a st → Pushes l m top NoRoom (formula_words a f) → length l < sizes st + size f
+  pub exceeded : {l m : List ℕ} {top : ℕ} (st : List Formula) (f : Formula) → top ≤ length l → take top l ≡ packed a st → Pushes l m top None (formula_words a f) → length l < sizes st + size f
   exceeded {l} {m} {top} st f h e p =
       omega (arith, p.done, ap length e, length-take-le top l h, length_packed st, length_words f)
 
-  pub not_exceeded : {l m : List ℕ} {top q : ℕ} (st : List Formula) (f : Formula) → top ≤ length l → take top l ≡ packed a st → Pushes l m top (Upto q) (formula_words a f) → sizes st + size f ≤ length l
+  pub not_exceeded : {l m : List ℕ} {top q : ℕ} (st : List Formula) (f : Formula) → top ≤ length l → take top l ≡ packed a st → Pushes l m top (Some q) (formula_words a f) → sizes st + size f ≤ length l
   not_exceeded {l} {m} {top} {q} st f h e p =
       omega (arith, p.len, p.done.place, p.done.within, ap length e, length-take-le top l h, length_packed st, length_words f)

@@ -6,17 +6,3 @@ pub mod bind;
 pub mod entry;
 pub mod expand;
 pub mod matching;
-
-/// How far an entry agrees: up to a place of the stack, or it differs.
-#[derive(Clone, Copy)]
-pub enum Matched {
-    Upto(usize),
-    Differs,
-}
-
-/// What became of words that are put on the stack: the place after them, or there is no room.
-#[derive(Clone, Copy)]
-pub enum Placed {
-    Upto(usize),
-    NoRoom,
-}

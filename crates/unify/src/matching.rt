@@ -6,48 +6,36 @@ ghost use Rattle.unify.specs.Entries.{plain, agrees, AtomsBelow};
 ghost use Rattle.unify.specs.Bound.{token_words, spread, is_entry};
 ghost use Rattle.unify.specs.Matches.{Matches};
 
-use crate::Matched;
 use crate::bind::{is_constant, start_of};
 use crate::entry::FLAG;
 use paper::Atom;
 
-/// The symbols from `s` on, up to the next entry, against the words from `p` on.
-pub fn match_part(stack: &[u32], s: usize, p: usize) -> Matched
+/// The symbols from `s` on, up to the next entry, against the words from `p` on: the place after those that agree.
+pub fn match_part(stack: &[u32], s: usize, p: usize) -> Option<usize>
     ensures { Matches (plain (drop s stack.now)) stack.now p result }
 {
-    let mut i = s;
     let mut q = p;
-    while i < stack.len() {
+    for i in s..stack.len() {
         if FLAG <= stack[i] {
-            return Matched::Upto(q);
+            return Some(q);
         }
-        if stack.len() <= q {
-            return Matched::Differs;
-        }
-        if stack[i] != stack[q] {
-            return Matched::Differs;
-        }
-        i += 1;
-        q += 1;
+        q = match_word(stack, stack[i], q)?;
     }
-    Matched::Upto(q)
+    Some(q)
 }
 
-/// A constant against the word at `p`.
-pub fn match_word(stack: &[u32], x: u32, p: usize) -> Matched
+/// A constant against the word at `p`: the place after it, if they agree.
+pub fn match_word(stack: &[u32], x: u32, p: usize) -> Option<usize>
     ensures { Matches (x ∷ []) stack.now p result }
 {
-    if stack.len() <= p {
-        return Matched::Differs;
+    if x != *stack.get(p)? {
+        return None;
     }
-    if x != stack[p] {
-        return Matched::Differs;
-    }
-    Matched::Upto(p + 1)
+    Some(p + 1)
 }
 
 /// What a token stands for against the words from `p` on.
-pub fn match_token(work: &[u32], n: usize, atom: Atom, stack: &[u32], p: usize) -> Matched
+pub fn match_token(work: &[u32], n: usize, atom: Atom, stack: &[u32], p: usize) -> Option<usize>
     requires { Room work.now n × (atom.0 < n) }
     ensures { Matches (token_words work.now n stack.now atom.0) stack.now p result }
 {
@@ -59,30 +47,28 @@ pub fn match_token(work: &[u32], n: usize, atom: Atom, stack: &[u32], p: usize) 
 }
 
 /// What some tokens stand for against the words from `p` on.
-pub fn match_tokens(work: &[u32], n: usize, tokens: &[u32], stack: &[u32], p: usize) -> Matched
+pub fn match_tokens(
+    work: &[u32],
+    n: usize,
+    tokens: &[u32],
+    stack: &[u32],
+    p: usize,
+) -> Option<usize>
     requires { Room work.now n × AtomsBelow tokens.now n }
     ensures { Matches (spread work.now n stack.now tokens.now) stack.now p result }
 {
     let mut q = p;
-    let mut i = 0;
-    while i < tokens.len() {
-        let Matched::Upto(k) = match_token(work, n, Atom(tokens[i]), stack, q) else {
-            return Matched::Differs;
-        };
-        q = k;
-        i += 1;
+    for &t in tokens {
+        q = match_token(work, n, Atom(t), stack, q)?;
     }
-    Matched::Upto(q)
+    Some(q)
 }
 
 /// Whether an entry stops at `p`.
 pub fn stops_at(stack: &[u32], p: usize) -> bool
     ensures { result ≡ agrees [] (drop p stack.now) }
 {
-    if stack.len() <= p {
-        return true;
-    }
-    FLAG <= stack[p]
+    stack.get(p).is_none_or(|&x| FLAG <= x)
 }
 
 /// Whether the entry at `at` has this typecode and what the tokens stand for.
@@ -97,11 +83,6 @@ pub fn matches(
     requires { Room work.now n × (typecode.0 < n) × AtomsBelow tokens.now n × (at < length stack.now) }
     ensures { result ≡ is_entry work.now n typecode.0 tokens.now stack.now at }
 {
-    if stack[at] != typecode.0 + FLAG {
-        return false;
-    }
-    let Matched::Upto(q) = match_tokens(work, n, tokens, stack, at + 1) else {
-        return false;
-    };
-    stops_at(stack, q)
+    stack[at] == typecode.0 + FLAG
+        && match_tokens(work, n, tokens, stack, at + 1).is_some_and(|q| stops_at(stack, q))
 }

@@ -1,20 +1,12 @@
-use mathlib.Core.Path.{◌≡◌}
+use mathlib.Core.Path.{ap, ◌∙◌}
 use native.Mathlib.Omega.{arith}
-use Rattle.area.proofs.Laws.{clear_none, clear_more}
-use borrow.Author.Rules.{rules}
+use Prim.Native.Nat.{ℕ}
+use lib.ListN.{replicate}
+use Rattle.std.proofs.lemmas.List.Edits.{length-between}
+use Rattle.area.proofs.Laws.{cleared_fill}
 use Rattle.area.proofs.clear_part.Goals as goal
 
-pub loop-i-init : goal.loop-i-init
-loop-i-init c = (search rules, search rules, clear_none _ _)
-
-pub bounds-work-i : goal.bounds-work-i
-bounds-work-i c = omega (arith, c.loop-i.invariant.2.only.len)
-
-pub loop-i-preserved : goal.loop-i-preserved
-loop-i-preserved c = (omega arith, omega arith, clear_more c.loop-i.invariant.0 (omega (arith, c.loop-i.invariant.2.only.len)) c.loop-i.invariant.2)
-
-pub shape_of-work : goal.shape_of-work
-shape_of-work c = c.loop-i.invariant.2.only.len
-
 pub returns : goal.returns
-returns c = let q : c.loop-i.i ≡ c.args.e = omega arith in rw q at c.loop-i.invariant.2
+returns c =
+    let n = length-between c.args.work.now c.args.a c.args.e in
+    cleared_fill c.args.work.now c.args.a c.args.e c.requires.0 c.requires.1 (c.fill.ensures.after (λ y p. p) ∙ ap (λ (k : ℕ). replicate k 0) (omega (arith, n)))

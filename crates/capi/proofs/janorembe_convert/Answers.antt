@@ -2,4 +2,4 @@ use Rattle.capi.proofs.Promises.{changed}
 use Rattle.capi.proofs.janorembe_convert.Goals as goal
 
 pub returns : goal.returns
-returns c = changed c.convert-converted.ensures c.tell_converted.ensures
+returns c = changed c.convert.ensures c.tell_converted.ensures

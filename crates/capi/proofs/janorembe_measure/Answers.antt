@@ -2,4 +2,4 @@ use Rattle.capi.proofs.Promises.{gauged}
 use Rattle.capi.proofs.janorembe_measure.Goals as goal
 
 pub returns : goal.returns
-returns c = gauged c.measure-measured.ensures c.setting_of-setting.ensures c.tell_measured.ensures
+returns c = gauged c.measure.ensures c.setting_of.ensures c.tell.ensures

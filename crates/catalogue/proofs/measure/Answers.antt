@@ -1,16 +1,19 @@
 use mathlib.Core.Path.{ap, ◌∙◌}
 use Prim.Native.Nat.{ℕ}
 use lib.ListN.{replicate}
-use Rattle.area.proofs.Laws.{cleared_all}
+use Rattle.paper.proofs.Options.{handed_on}
 use Rattle.fold.proofs.Starts.{read_held}
 use Rattle.catalogue.proofs.Promises.{unmeasured, measured}
 use Rattle.catalogue.proofs.measure.Goals as goal
 
 pub measure_read-needs-requires : goal.measure_read-needs-requires
-measure_read-needs-requires c = read_held c.args.work.now c.read.ensures c.in-Read.is
+measure_read-needs-requires c = read_held c.args.work.now _ c.in_ok-read.ensures
 
-pub returns-in-Unread : goal.returns-in-Unread
-returns-in-Unread c = unmeasured c.args.work.now c.read.ensures c.in-Unread.is
+pub returns-in_err-read : goal.returns-in_err-read
+returns-in_err-read c =
+    rw (handed_on c.from_residual.result c.from_residual.ensures.1) (unmeasured c.args.work.now _ c.in_err-read.ensures)
 
-pub returns-in-Read : goal.returns-in-Read
-returns-in-Read c = measured c.args.work.now c.read.ensures c.in-Read.is c.measure_read-needs.ensures (cleared_all c.clear_part.ensures ∙ ap (λ (x : ℕ). replicate x 0) (c.measure_read-needs.auto.work ∙ c.read.auto.work))
+pub returns : goal.returns
+returns c =
+    measured c.args.work.now _ c.in_ok-read.ensures c.measure_read-needs.ensures
+    (c.clear.ensures ∙ ap (λ (x : ℕ). replicate x 0) (c.measure_read-needs.auto.work ∙ c.read.auto.work))

@@ -21,23 +21,15 @@ overflow_mul-result c = omega (arith, counted_tokens _ c.count-counted.ensures, 
 pub returns-then-work-n : goal.returns-then-work-n
 returns-then-work-n c = read_short _ c.args.work.now c.if-text-gt16777216.false c.count-counted.ensures c.clear-then-work-n.ensures (search rules)
 
-pub hop-c-requires : goal.hop-c-requires
-hop-c-requires c = (rw c.text_start.ensures (line_start _), rw c.text_start.ensures zero-le, bad_inside _ c.count-counted.ensures c.in-At.is)
+pub hop-requires : goal.hop-requires
+hop-requires c = (rw c.text_start.ensures (line_start _), rw c.text_start.ensures zero-le, bad_inside _ c.count-counted.ensures c.in-Some.is)
 
-pub overflow_mul-n-in-Nowhere : goal.overflow_mul-n-in-Nowhere
-overflow_mul-n-in-Nowhere c = omega (arith, counted_tokens _ c.count-counted.ensures, few_tokens c.args.text.now)
-
-pub overflow_mul-n-in-Nowhere-2 : goal.overflow_mul-n-in-Nowhere-2
-overflow_mul-n-in-Nowhere-2 c = omega (arith, counted_tokens _ c.count-counted.ensures, few_tokens c.args.text.now)
-
-pub clear_part-requires : goal.clear_part-requires
-clear_part-requires c = (omega arith, search rules)
+pub returns-in-Some : goal.returns-in-Some
+returns-in-Some c = read_bad _ c.args.work.now c.if-text-gt16777216.false c.count-counted.ensures (search rules) c.clear-in-Some.ensures _ c.in-Some.is c.hop.ensures.0 c.hop.ensures.1
 
 pub read_text-requires : goal.read_text-requires
-read_text-requires c = (c.table-classes.ensures, read_begin _ c.args.work.now c.if-text-gt16777216.false c.count-counted.ensures (search rules) c.clear_part.ensures)
+read_text-requires c = read_begin _ c.args.work.now c.if-text-gt16777216.false c.count-counted.ensures (search rules) c.clear_part.ensures
 
-pub returns-in-At : goal.returns-in-At
-returns-in-At c = read_bad _ c.args.work.now c.if-text-gt16777216.false c.count-counted.ensures (search rules) c.clear-in-At.ensures _ c.in-At.is c.hop-c.ensures.0 c.hop-c.ensures.1
-
-pub returns-in-Nowhere : goal.returns-in-Nowhere
-returns-in-Nowhere c = read_good _ c.args.work.now c.if-text-gt16777216.false c.count-counted.ensures (search rules) c.clear_part.ensures c.read_text.new.work c.read_text.result c.in-Nowhere.is c.read_text.ensures
+pub returns : goal.returns
+returns c = read_good _ c.args.work.now c.if-text-gt16777216.false c.count-counted.ensures (search rules) c.clear_part.ensures
+    c.read_text.new.work c.read_text.result c.in_default.is c.read_text.ensures

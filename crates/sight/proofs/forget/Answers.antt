@@ -16,23 +16,11 @@ offset_bounds-work-bucket c = let b = forget_within c.loop-k.invariant c.require
 pub bounds-work-bucket : goal.bounds-work-bucket
 bounds-work-bucket c = let b = forget_within c.loop-k.invariant c.requires (search rules) in omega arith
 
-pub overflow_cast-atom : goal.overflow_cast-atom
-overflow_cast-atom c = omega (arith, c.slice_known-in-loop-k-1.given c.bucket.result)
-
-pub symbol-requires : goal.symbol-requires
-symbol-requires c = let b = forget_within c.loop-k.invariant c.requires (search rules) in omega (arith, word_at c.loop-k.work c.bucket.ensures)
-
-pub offset_bounds-work-symbol : goal.offset_bounds-work-symbol
-offset_bounds-work-symbol c = let b = forget_within c.loop-k.invariant c.requires (search rules) in omega (arith, word_at c.loop-k.work c.bucket.ensures)
-
 pub bounds-work-symbol : goal.bounds-work-symbol
 bounds-work-symbol c = let b = forget_within c.loop-k.invariant c.requires (search rules) in omega (arith, word_at c.loop-k.work c.bucket.ensures)
 
 pub loop-k-preserved : goal.loop-k-preserved
 loop-k-preserved c = forget_step c.loop-k.invariant c.requires (search rules) (word_at c.loop-k.work c.bucket.ensures) c.symbol.ensures
-
-pub shape_of-work : goal.shape_of-work
-shape_of-work c = c.loop-k.invariant.kept.len
 
 pub returns : goal.returns
 returns c = forget_end c.loop-k.invariant (search rules)

@@ -1,6 +1,4 @@
 use native.Mathlib.Omega.{arith}
-use mathlib.Core.Path.{sym}
-use Rattle.paper.proofs.Tests.{clash}
 use Rattle.checks.proofs.Good.{good_start, good_step, good_end}
 use Rattle.checks.proofs.walks.all_good.Goals as goal
 
@@ -17,19 +15,16 @@ pub overflow_cast-i : goal.overflow_cast-i
 overflow_cast-i c = omega (arith, c.requires.1.rows, c.requires.0.small)
 
 pub is_good-requires : goal.is_good-requires
-is_good-requires c = (c.requires.0, rw c.of_math.ensures (c.requires.1.atom c.loop-i.i c.loop-i-test.true), rw c.of_math.ensures (c.requires.2 c.loop-i.i c.loop-i-test.true))
-
-pub returns-then-not-is_good : goal.returns-then-not-is_good
-returns-then-not-is_good c = λ e. absurd (clash (sym e))
-
-pub overflow_add-i : goal.overflow_add-i
-overflow_add-i c = omega (arith, c.requires.1.rows, c.requires.0.small)
-
-pub loop-i-smaller : goal.loop-i-smaller
-loop-i-smaller c = omega arith
+is_good-requires c = (
+  c.requires.0,
+  rw c.of_math.ensures (c.requires.1.atom c.loop-i.i c.loop-i-test.true),
+  rw c.of_math.ensures (c.requires.2 c.loop-i.i c.loop-i-test.true),
+)
 
 pub loop-i-preserved : goal.loop-i-preserved
-loop-i-preserved c = good_step c.loop-i-test.true c.of_math.ensures (c.is_good.ensures c.if-not-is_good.false) c.loop-i.invariant
+loop-i-preserved c =
+    good_step c.loop-i-test.true c.of_math.ensures (rw c.new.ensures at (c.is_good.ensures c.if-not-is_good.false))
+    c.loop-i.invariant
 
 pub returns : goal.returns
-returns c = λ e. good_end c.loop-i-test.false c.loop-i.invariant
+returns c = λ e. good_end (omega arith) c.loop-i.invariant

@@ -1,13 +1,12 @@
+use mathlib.Core.Path.{◌≡◌}
 use Prim.Native.Nat.{◌≤◌}
 use lib.ListN.{length}
-use Rattle.token.specs.Words.{Lined}
 use Rattle.checks.specs.Visible.{visible_from}
 use Rattle.checks.specs.Walks.{LastTwo}
-use Rattle.checks.proofs.Each.{Left}
 use Rattle.checks.proofs.walks.float_tokens.Given as goal
 
-abbrev pub invariant-loop-d : goal.invariant-loop-d
-invariant-loop-d l = LastTwo l.work l.n l.first l.i l.typecode l.variable × Left l.part l.c.at l.i × (l.i ≤ length (visible_from l.part 0)) × Lined l.part l.c
-
-abbrev pub decreases-loop-d : goal.decreases-loop-d
-decreases-loop-d l = length (visible_from l.part l.c.at)
+abbrev pub invariant-loop-x : goal.invariant-loop-x
+invariant-loop-x l =
+    LastTwo l.work l.n l.first l.x-iterator.index l.typecode.0 l.variable.0
+    × (l.x-iterator.index ≤ length (visible_from l.part 0))
+    × (l.x-iterator.part.now ≡ l.part)

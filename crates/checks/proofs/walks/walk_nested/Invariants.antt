@@ -1,11 +1,9 @@
-use lib.ListN.{length}
-use Rattle.token.specs.Words.{Lined}
-use Rattle.checks.specs.Visible.{visible_from}
+use mathlib.Core.Path.{◌≡◌}
 use Rattle.checks.proofs.OverPart.{InvNested}
 use Rattle.checks.proofs.walks.walk_nested.Given as goal
 
 abbrev pub invariant-loop-x : goal.invariant-loop-x
-invariant-loop-x l = InvNested l.initial.work l.work l.part l.initial.diags l.diags l.n l.at l.p l.first l.from l.end l.s.0 l.c.at l.i × Lined l.part l.c
-
-abbrev pub decreases-loop-x : goal.decreases-loop-x
-decreases-loop-x l = length (visible_from l.part l.c.at)
+invariant-loop-x l =
+    InvNested l.initial.work l.work l.part l.initial.diags l.diags l.n l.at l.p l.first l.from l.end l.s.0
+    l.x-iterator.index
+    × (l.x-iterator.part.now ≡ l.part)

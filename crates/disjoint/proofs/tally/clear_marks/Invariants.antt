@@ -1,9 +1,5 @@
-use Prim.Native.Nat.{◌-◌}
 use Rattle.disjoint.proofs.Walks.{InvClear}
 use Rattle.disjoint.proofs.tally.clear_marks.Given as goal
 
 abbrev pub invariant-loop-k : goal.invariant-loop-k
 invariant-loop-k l = InvClear l.initial.work l.work l.n l.m l.k
-
-abbrev pub decreases-loop-k : goal.decreases-loop-k
-decreases-loop-k l = l.m - l.k

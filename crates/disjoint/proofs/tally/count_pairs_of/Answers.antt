@@ -1,13 +1,10 @@
 use native.Mathlib.Omega.{arith}
-use Rattle.disjoint.proofs.Walks.{of_begin, of_room, of_can, of_few, of_step, of_end}
+use Rattle.disjoint.proofs.Walks.{of_begin, of_can, of_few, of_step, of_end}
 use borrow.Author.Rules.{rules}
 use Rattle.disjoint.proofs.tally.count_pairs_of.Goals as goal
 
 pub loop-k-init : goal.loop-k-init
 loop-k-init c = of_begin _ _ _ _ _
-
-pub of_statement-requires : goal.of_statement-requires
-of_statement-requires c = let b = of_room c.requires c.loop-k.invariant (search rules) in (b.0.room, b.1, omega arith)
 
 pub mark_with-sum-requires : goal.mark_with-sum-requires
 mark_with-sum-requires c = of_can c.requires c.loop-k.invariant (search rules) c.of_statement.ensures
@@ -18,9 +15,6 @@ overflow_add-sum c = let s = of_step c.requires c.loop-k.invariant (search rules
 
 pub loop-k-preserved : goal.loop-k-preserved
 loop-k-preserved c = of_step c.requires c.loop-k.invariant (search rules) c.of_statement.ensures c.mark_with-sum.ensures
-
-pub shape_of-work : goal.shape_of-work
-shape_of-work c = c.loop-k.invariant.marks.kept.len
 
 pub returns : goal.returns
 returns c = of_end c.requires c.loop-k.invariant (search rules)

@@ -1,9 +1,5 @@
-use Prim.Native.Nat.{◌-◌}
 use Rattle.disjoint.proofs.Walks.{InvOf}
 use Rattle.disjoint.proofs.tally.count_pairs_of.Given as goal
 
 abbrev pub invariant-loop-k : goal.invariant-loop-k
-invariant-loop-k l = InvOf l.initial.work l.work l.n l.m l.ds l.u.0 l.sum l.k
-
-abbrev pub decreases-loop-k : goal.decreases-loop-k
-decreases-loop-k l = l.ds - l.k
+invariant-loop-k l = InvOf l.initial.work l.work l.n l.m l.ds l.fn.u.0 l.sum l.k

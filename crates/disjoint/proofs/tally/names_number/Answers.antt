@@ -1,31 +1,21 @@
+use mathlib.Core.Path.{refl, ◌∙◌}
+use Prim.Native.Nat.{◌+◌, ◌-◌}
 use native.Mathlib.Omega.{arith}
-use Rattle.disjoint.proofs.Walks.{token_here, names_begin, names_here, names_next, names_end}
+use lib.Dec.{eqb}
 use borrow.Author.Rules.{rules}
+use borrow.Author.Tests.{tests}
+use Rattle.std.proofs.lemmas.Iterator.{YieldsList-from_range}
+use Rattle.std.proofs.lemmas.Iterator.Search.{any_from_yields_List}
+use Rattle.disjoint.specs.Words.{number_at}
+use Rattle.disjoint.proofs.Walks.{names_any}
 use Rattle.disjoint.proofs.tally.names_number.Goals as goal
 
-pub of_statement-first-requires : goal.of_statement-first-requires
-of_statement-first-requires c = (c.requires.buckets.room, c.requires.row.here, omega arith)
-
-pub of_statement-count-requires : goal.of_statement-count-requires
-of_statement-count-requires c = (c.requires.buckets.room, c.requires.row.here, omega arith)
-
-pub loop-i-init : goal.loop-i-init
-loop-i-init c = names_begin _ _ _ _
-
-pub overflow_add-first : goal.overflow_add-first
-overflow_add-first c = omega (arith, (token_here c.loop-i.i c.requires.row c.of_statement-first.ensures c.of_statement-count.ensures (search rules)).here, c.requires.buckets.room.small)
-
-pub overflow_cast-first-in-loop-i : goal.overflow_cast-first-in-loop-i
-overflow_cast-first-in-loop-i c = omega (arith, (token_here c.loop-i.i c.requires.row c.of_statement-first.ensures c.of_statement-count.ensures (search rules)).here, c.requires.buckets.room.small)
-
-pub number-v-requires : goal.number-v-requires
-number-v-requires c = (c.requires.buckets.room, token_here _ c.requires.row c.of_statement-first.ensures c.of_statement-count.ensures (search rules))
-
-pub returns-then-v-u : goal.returns-then-v-u
-returns-then-v-u c = names_here c.loop-i.invariant c.of_statement-first.ensures c.of_statement-count.ensures (search rules) c.number-v.ensures c.if-v-u.true
-
-pub loop-i-preserved : goal.loop-i-preserved
-loop-i-preserved c = names_next c.loop-i.invariant c.of_statement-first.ensures c.of_statement-count.ensures (search rules) c.number-v.ensures c.if-v-u.false
-
 pub returns : goal.returns
-returns c = names_end c.loop-i.invariant c.of_statement-first.ensures c.of_statement-count.ensures (search rules)
+returns c =
+    let w = c.args.work.now in
+    let n = c.args.n in
+    let t = c.of-tokens.result in
+    any_from_yields_List (λ i. eqb (number_at w n (t.first + i) - 1) c.args.u.0) _ _ _ c.any.ensures.ran
+    (YieldsList-from_range 0 t.count t.count refl (omega arith))
+    (λ x b q k. search (rules, tests))
+    ∙ names_any w n c.args.row.0 c.args.u.0 c.of-tokens.ensures.first c.of-tokens.ensures.count

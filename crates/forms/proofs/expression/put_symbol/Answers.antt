@@ -1,8 +1,9 @@
+use mathlib.Core.Path.{sym, ◌∙◌}
 use Rattle.forms.proofs.Fragments.{symbol_constant, symbol_variable}
 use Rattle.forms.proofs.expression.put_symbol.Goals as goal
 
-pub returns-then-number : goal.returns-then-number
-returns-then-number c = symbol_constant c.requires c.symbol_word-number.ensures.0 c.constant_length-size.ensures _ c.if-number.true
+pub returns-then-is_constant : goal.returns-then-is_constant
+returns-then-is_constant c = symbol_constant c.requires c.constant_length.ensures _ (sym c.is_constant.ensures ∙ c.if-is_constant.true)
 
 pub returns : goal.returns
-returns c = symbol_variable c.requires c.symbol_word-number.ensures.0 c.constant_length-size.ensures c.if-number.false c.put_fragment-at.ensures
+returns c = symbol_variable c.requires c.constant_length.ensures c.variable_number-variable.ensures (sym c.is_constant.ensures ∙ c.if-is_constant.false) c.put_fragment-at.ensures

@@ -1,6 +1,5 @@
-use native.Mathlib.Omega.{arith}
 use Rattle.area.proofs.Laws.{word_at}
-use Rattle.sight.proofs.Stacks.{all_can, all_end, all_bounds}
+use Rattle.sight.proofs.Stacks.{all_can, all_end}
 use Rattle.frames.proofs.Outer.{deep_stack, can_lower, onward_start, onward_step}
 use borrow.Author.Rules.{rules}
 use Rattle.frames.proofs.scan.scan_dv.Goals as goal
@@ -14,23 +13,11 @@ scan_all-v-requires c = can_lower c.lookup_global_dv-outer.ensures.few c.require
 pub loop-k-init : goal.loop-k-init
 loop-k-init c = onward_start _ _ _ _ _ _ _ c.lookup_global_dv-outer.ensures.few
 
-pub statement-requires : goal.statement-requires
-statement-requires c = let b = all_bounds (c.loop-k.invariant.sim _ _ c.requires c.scan_all-v.ensures) c.requires (search rules) in omega (arith, c.requires.column)
-
-pub offset_bounds-work-statement : goal.offset_bounds-work-statement
-offset_bounds-work-statement c = let b = all_bounds (c.loop-k.invariant.sim _ _ c.requires c.scan_all-v.ensures) c.requires (search rules) in omega (arith, c.requires.column)
-
-pub bounds-work-statement : goal.bounds-work-statement
-bounds-work-statement c = let b = all_bounds (c.loop-k.invariant.sim _ _ c.requires c.scan_all-v.ensures) c.requires (search rules) in omega (arith, c.requires.column)
-
 pub scan-v-requires : goal.scan-v-requires
 scan-v-requires c = rw (word_at c.loop-k.work c.statement.ensures) (all_can (c.loop-k.invariant.sim _ _ c.requires c.scan_all-v.ensures) c.requires (search rules))
 
 pub loop-k-preserved : goal.loop-k-preserved
 loop-k-preserved c = onward_step c.loop-k.invariant (search rules) (word_at c.loop-k.work c.statement.ensures) c.scan-v.ensures
-
-pub shape_of-work : goal.shape_of-work
-shape_of-work c = (c.loop-k.invariant.sim _ _ c.requires c.scan_all-v.ensures).kept.len
 
 pub returns : goal.returns
 returns c = all_end (c.loop-k.invariant.sim _ _ c.requires c.scan_all-v.ensures) (search rules)

@@ -2,15 +2,6 @@ use native.Mathlib.Omega.{arith}
 use Rattle.frames.proofs.Floats.{stub_words, stubs, stub_requires}
 use Rattle.frames.proofs.stub.construct_stub_frame.Goals as goal
 
-pub statement_word-start-requires : goal.statement_word-start-requires
-statement_word-start-requires c = let f = stub_words c.requires.0 in omega arith
-
-pub statement_word-end-requires : goal.statement_word-end-requires
-statement_word-end-requires c = let f = stub_words c.requires.0 in omega arith
-
-pub label_word-requires : goal.label_word-requires
-label_word-requires c = let f = stub_words c.requires.0 in omega arith
-
 pub name_part-label-requires : goal.name_part-label-requires
 name_part-label-requires c = rw c.label_word.ensures (stub_words c.requires.0).label.words
 
@@ -27,7 +18,11 @@ pub name_part-variable-requires : goal.name_part-variable-requires
 name_part-variable-requires c = rw c.math_word-2.ensures (stub_words c.requires.0).variable.words
 
 pub put_stub-requires : goal.put_stub-requires
-put_stub-requires c = stub_requires c.requires.0 c.requires.1 c.label_word.ensures c.math_word.ensures c.math_word-2.ensures c.name_part-label.ensures c.name_part-typecode.ensures c.name_part-variable.ensures
+put_stub-requires c =
+    stub_requires c.requires.0 c.requires.1 c.label_word.ensures c.math_word.ensures c.math_word-2.ensures
+    c.name_part-label.ensures c.name_part-typecode.ensures c.name_part-variable.ensures
 
 pub returns : goal.returns
-returns c = stubs c.requires.0 c.statement_word-start.ensures.0 c.statement_word-end.ensures.0 c.label_word.ensures c.math_word.ensures c.math_word-2.ensures c.name_part-label.ensures c.name_part-typecode.ensures c.name_part-variable.ensures c.put_stub.ensures
+returns c =
+    stubs c.requires.0 c.statement_word-start.ensures.0 c.statement_word-end.ensures.0 c.label_word.ensures c.math_word.ensures
+    c.math_word-2.ensures c.name_part-label.ensures c.name_part-typecode.ensures c.name_part-variable.ensures c.put_stub.ensures

@@ -11,10 +11,10 @@ pub returns-in_default : goal.returns-in_default
 returns-in_default c = looked_bad c.loop-at.invariant c.loop-at-test.true (sym c.in_default.is ∙ c.after_record.ensures)
 
 pub loop-at-smaller : goal.loop-at-smaller
-loop-at-smaller c = let f = fitting_stands c.args.stream.now c.loop-at.at (sym c.in-Upto.is ∙ c.after_record.ensures) in omega (arith, f.after)
+loop-at-smaller c = let f = fitting_stands c.args.stream.now c.loop-at.at (sym c.in-Some.is ∙ c.after_record.ensures) in omega (arith, f.after)
 
 pub loop-at-preserved : goal.loop-at-preserved
-loop-at-preserved c = looked_next c.loop-at.invariant c.loop-at-test.true (sym c.in-Upto.is ∙ c.after_record.ensures)
+loop-at-preserved c = looked_next c.loop-at.invariant c.loop-at-test.true (sym c.in-Some.is ∙ c.after_record.ensures)
 
 pub returns : goal.returns
 returns c = looked_end c.loop-at.invariant (omega arith)

@@ -14,11 +14,11 @@ returns-then-u16_at-ne1 c = (c.put_bytes.ensures.0, wrote_as c.put_bytes.ensures
 pub slice_bounds-put_bytes-end : goal.slice_bounds-put_bytes-end
 slice_bounds-put_bytes-end c = simp length-take (omega (arith, c.requires.1.room))
 
-pub put_bytes-a-requires : goal.put_bytes-a-requires
-put_bytes-a-requires c = simp length-take (omega (arith, c.requires.1.room))
+pub put_bytes-at-requires : goal.put_bytes-at-requires
+put_bytes-at-requires c = simp length-take (omega (arith, c.requires.1.room))
 
-pub put_u16-b-requires : goal.put_u16-b-requires
-put_u16-b-requires c = omega (arith, c.requires.1.room, simp length-take at c.put_bytes-a.ensures.0)
+pub put_u16-at-requires : goal.put_u16-at-requires
+put_u16-at-requires c = omega (arith, c.requires.1.room, simp length-take at c.put_bytes-at.ensures.0)
 
 pub slice_bounds-put_lowered-count : goal.slice_bounds-put_lowered-count
 slice_bounds-put_lowered-count c = omega (arith, c.requires.1.room)
@@ -27,7 +27,7 @@ pub slice_bounds-put_lowered-start : goal.slice_bounds-put_lowered-start
 slice_bounds-put_lowered-start c = omega (arith, c.requires.1.room)
 
 pub put_lowered-requires : goal.put_lowered-requires
-put_lowered-requires c = (simp (length-take, length-drop) (omega (arith, c.requires.1.room, simp length-take at c.put_bytes-a.ensures.0)), rw (part_rest _ 6) (c.requires.1.old (sym c.u16_at.ensures.1 ∙ c.if-u16_at-ne1.false)))
+put_lowered-requires c = (simp (length-take, length-drop) (omega (arith, c.requires.1.room, simp length-take at c.put_bytes-at.ensures.0)), rw (part_rest _ 6) (c.requires.1.old (sym c.u16_at.ensures.1 ∙ c.if-u16_at-ne1.false)))
 
 pub returns : goal.returns
-returns c = (omega (arith, c.requires.1.room, simp length-take at c.put_bytes-a.ensures.0, simp (length-take, length-drop) at c.put_lowered.ensures.0), wrote_as (wrote_then c.put_bytes-a.ensures.1 (wrote_then c.put_u16-b.ensures.1 (rw (part_rest _ 6) at c.put_lowered.ensures.1))) (renewed_old _ (sym c.u16_at.ensures.1 ∙ c.if-u16_at-ne1.false)))
+returns c = (omega (arith, c.requires.1.room, simp length-take at c.put_bytes-at.ensures.0, simp (length-take, length-drop) at c.put_lowered.ensures.0), wrote_as (wrote_then c.put_bytes-at.ensures.1 (wrote_then c.put_u16-at.ensures.1 (rw (part_rest _ 6) at c.put_lowered.ensures.1))) (renewed_old _ (sym c.u16_at.ensures.1 ∙ c.if-u16_at-ne1.false)))

@@ -1,19 +1,16 @@
-use mathlib.Core.Path.{ap}
-use Rattle.layout.specs.Cuts.{falls}
-use Rattle.layout.proofs.Cuts.{came, none, further, onward, stopped, came_skipped}
-use Rattle.paper.specs.Layout.{hypothesis_tail, skipped, an_expression}
+use mathlib.Core.Path.{sym, ◌∙◌}
+use Rattle.paper.specs.Layout.{an_address, an_expression, hypothesis_tail}
+use Rattle.layout.proofs.Left.{some_left, none_left, left_then, none_then, left_skipped}
 use Rattle.layout.proofs.cut.after_essential.Goals as goal
 
-pub after_part-requires : goal.after_part-requires
-after_part-requires c = c.requires
-
-pub returns-in_default : goal.returns-in_default
+pub returns-in_err-expression : goal.returns-in_err-expression
 unfolding hypothesis_tail
-returns-in_default c = falls (stopped (an_expression) (ap skipped (none c.after_part.ensures c.in_default.is)))
-
-pub after_expression-requires : goal.after_expression-requires
-after_expression-requires c = further c.requires (came_skipped (came c.after_part.ensures c.in-Upto.is))
+returns-in_err-expression c =
+    rw c.from_residual.ensures
+    (sym (none_then (an_address c.args.bytes.now) an_expression (left_skipped _ ∙ none_left _ c.after_part.ensures c.in_err-expression.was)))
 
 pub returns : goal.returns
 unfolding hypothesis_tail
-returns c = onward (an_expression) (came_skipped (came c.after_part.ensures c.in-Upto.is)) c.after_expression.ensures
+returns c =
+    c.after_expression.ensures
+    ∙ sym (left_then (an_address c.args.bytes.now) an_expression (left_skipped _ ∙ some_left _ c.after_part.ensures c.in_ok-expression.was))

@@ -1,26 +1,26 @@
-use native.Mathlib.Omega.{arith}
-use Rattle.layout.specs.Cuts.{falls}
-use Rattle.layout.proofs.Cuts.{came, none, further, onward, stopped, cuts_whole}
-use Rattle.paper.specs.Layout.{an_expression, then, counted, part}
+use mathlib.Core.Path.{sym, ◌∙◌}
+use Rattle.paper.specs.Layout.{a_string, counted, an_expression}
+use Rattle.layout.proofs.Left.{some_left, none_left, left_then, none_then, left_whole}
 use Rattle.layout.proofs.cut.after_expression.Goals as goal
 
-pub after_counted-requires : goal.after_counted-requires
-after_counted-requires c = (c.requires, omega arith)
-
-pub returns-in_default : goal.returns-in_default
+pub returns-in_err-fragments : goal.returns-in_err-fragments
 unfolding an_expression
-returns-in_default c = cuts_whole (falls (stopped (λ m. then (counted 10 m) (part 8)) (none c.after_counted.ensures c.in_default.is)))
+returns-in_err-fragments c =
+    rw c.from_residual.ensures
+    (sym (left_whole _ ∙ none_then (a_string c.args.bytes.now) _ (none_left _ c.after_string.ensures c.in_err-fragments.was)))
 
-pub after_counted-requires-2 : goal.after_counted-requires-2
-after_counted-requires-2 c = (further c.requires (came c.after_counted.ensures c.in-Upto.is), omega arith)
-
-pub returns-in_default-after_counted : goal.returns-in_default-after_counted
+pub returns-in_err-rump : goal.returns-in_err-rump
 unfolding an_expression
-returns-in_default-after_counted c = cuts_whole (onward (λ m. then (counted 10 m) (part 8)) (came c.after_counted.ensures c.in-Upto.is) (falls (stopped (part 8) (none c.after_counted-2.ensures c.in_default-after_counted.is))))
-
-pub after_part-requires : goal.after_part-requires
-after_part-requires c = further (further c.requires (came c.after_counted.ensures c.in-Upto.is)) (came c.after_counted-2.ensures c.in-Upto-after_counted.is)
+returns-in_err-rump c =
+    rw c.from_residual-in_err-rump.ensures
+    (sym (left_whole _
+    ∙ left_then (a_string c.args.bytes.now) _ (some_left _ c.after_string.ensures c.in_ok-fragments.was)
+    ∙ none_then (counted 10 c.in_ok-fragments.fragments.now) _ (none_left _ c.after_counted.ensures c.in_err-rump.was)))
 
 pub returns : goal.returns
 unfolding an_expression
-returns c = cuts_whole (onward (λ m. then (counted 10 m) (part 8)) (came c.after_counted.ensures c.in-Upto.is) (onward (part 8) (came c.after_counted-2.ensures c.in-Upto-after_counted.is) c.after_part.ensures))
+returns c =
+    c.after_part.ensures
+    ∙ sym (left_whole _
+    ∙ left_then (a_string c.args.bytes.now) _ (some_left _ c.after_string.ensures c.in_ok-fragments.was)
+    ∙ left_then (counted 10 c.in_ok-fragments.fragments.now) _ (some_left _ c.after_counted.ensures c.in_ok-rump.was))

@@ -1,27 +1,24 @@
-use mathlib.Core.Path.{ap}
-use native.Mathlib.Omega.{arith}
-use Rattle.layout.specs.Cuts.{falls}
-use Rattle.layout.proofs.Cuts.{came, none, further, onward, stopped, came_skipped}
-use Rattle.paper.specs.Layout.{hypothesis_tail, then, skipped, part, a_string}
+use mathlib.Core.Path.{sym, ◌∙◌}
+use Rattle.paper.specs.Layout.{an_address, part, hypothesis_tail}
+use Rattle.layout.proofs.Left.{some_left, none_left, left_then, none_then, left_skipped}
 use Rattle.layout.proofs.cut.after_float.Goals as goal
 
-pub after_part-requires : goal.after_part-requires
-after_part-requires c = c.requires
-
-pub returns-in_default : goal.returns-in_default
+pub returns-in_err-variable : goal.returns-in_err-variable
 unfolding hypothesis_tail
-returns-in_default c = falls (stopped (λ m. then (part 2 m) a_string) (ap skipped (none c.after_part.ensures c.in_default.is)))
+returns-in_err-variable c =
+    rw c.from_residual.ensures
+    (sym (none_then (an_address c.args.bytes.now) _ (left_skipped _ ∙ none_left _ c.after_part.ensures c.in_err-variable.was)))
 
-pub after_part-requires-2 : goal.after_part-requires-2
-after_part-requires-2 c = further c.requires (came_skipped (came c.after_part.ensures c.in-Upto.is))
-
-pub returns-in_default-after_part : goal.returns-in_default-after_part
+pub returns-in_err-typecode : goal.returns-in_err-typecode
 unfolding hypothesis_tail
-returns-in_default-after_part c = onward (λ m. then (part 2 m) a_string) (came_skipped (came c.after_part.ensures c.in-Upto.is)) (falls (stopped (a_string) (none c.after_part-2.ensures c.in_default-after_part.is)))
-
-pub after_counted-requires : goal.after_counted-requires
-after_counted-requires c = (further (further c.requires (came_skipped (came c.after_part.ensures c.in-Upto.is))) (came c.after_part-2.ensures c.in-Upto-after_part.is), omega arith)
+returns-in_err-typecode c =
+    rw c.from_residual-in_err-typecode.ensures
+    (sym (left_then (an_address c.args.bytes.now) _ (left_skipped _ ∙ some_left _ c.after_part.ensures c.in_ok-variable.was)
+    ∙ none_then (part 2 c.in_ok-variable.variable.now) _ (none_left _ c.after_part-2.ensures c.in_err-typecode.was)))
 
 pub returns : goal.returns
 unfolding hypothesis_tail
-returns c = onward (λ m. then (part 2 m) a_string) (came_skipped (came c.after_part.ensures c.in-Upto.is)) (onward (a_string) (came c.after_part-2.ensures c.in-Upto-after_part.is) c.after_counted.ensures)
+returns c =
+    c.after_string.ensures
+    ∙ sym (left_then (an_address c.args.bytes.now) _ (left_skipped _ ∙ some_left _ c.after_part.ensures c.in_ok-variable.was)
+    ∙ left_then (part 2 c.in_ok-variable.variable.now) _ (some_left _ c.after_part-2.ensures c.in_ok-typecode.was))

@@ -1,22 +1,19 @@
-use native.Mathlib.Omega.{arith}
-use Rattle.layout.specs.Cuts.{falls}
-use Rattle.layout.proofs.Hypotheses.{hypotheses_short, hypotheses_cuts}
+use mathlib.Core.Path.{sym, ◌∙◌}
+use Rattle.std.proofs.Common.{rules}
+use Rattle.paper.specs.Layout.{part, a_hypothesis, hypotheses_part}
+use Rattle.layout.proofs.Left.{some_left, none_left, parted, left_then, none_then}
 use Rattle.layout.proofs.cut.after_hypotheses.Goals as goal
 
-pub overflow_sub-end : goal.overflow_sub-end
-overflow_sub-end c = c.requires.order
+pub returns-in_err-rest : goal.returns-in_err-rest
+unfolding hypotheses_part
+returns-in_err-rest c =
+    rw c.from_residual.ensures (sym (none_then (part 4 c.args.bytes.now) _ (none_left _ c.after_part.ensures c.in_err-rest.was)))
 
-pub returns-then-end-from-lt4 : goal.returns-then-end-from-lt4
-returns-then-end-from-lt4 c = falls (hypotheses_short c.requires c.if-end-from-lt4.true)
-
-pub u32_at-count-requires : goal.u32_at-count-requires
-u32_at-count-requires c = omega (arith, c.requires.order, c.requires.inside)
-
-pub overflow_add-from : goal.overflow_add-from
-overflow_add-from c = omega (arith, c.requires.order, c.requires.inside)
-
-pub after_each-requires : goal.after_each-requires
-after_each-requires c = record { order = omega (arith, c.requires.order); inside = c.requires.inside }
+pub u32_at-requires : goal.u32_at-requires
+u32_at-requires c = (parted 4 c.args.bytes.now c.in_ok-rest.rest.now (some_left _ c.after_part.ensures c.in_ok-rest.was)).room
 
 pub returns : goal.returns
-returns c = hypotheses_cuts c.requires (omega arith) c.u32_at-count.ensures.1 c.after_each.ensures
+unfolding hypotheses_part
+returns c =
+    c.after_times.ensures a_hypothesis (λ y s p. search rules)
+    ∙ sym (left_then (part 4 c.args.bytes.now) _ (some_left _ c.after_part.ensures c.in_ok-rest.was) ∙ rw c.u32_at.ensures.1)

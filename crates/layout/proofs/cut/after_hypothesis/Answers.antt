@@ -1,22 +1,21 @@
-use native.Mathlib.Omega.{arith}
-use Rattle.layout.specs.Cuts.{falls}
-use Rattle.layout.proofs.Hypotheses.{hypothesis_short, hypothesis_cuts}
+use mathlib.Core.Path.{sym, ◌∙◌}
+use Rattle.paper.specs.Layout.{part, a_hypothesis}
+use Rattle.layout.proofs.Left.{some_left, none_left, parted, left_then, none_then, left_whole}
 use Rattle.layout.proofs.cut.after_hypothesis.Goals as goal
 
-pub overflow_sub-end : goal.overflow_sub-end
-overflow_sub-end c = c.requires.order
+pub returns-in_err-rest : goal.returns-in_err-rest
+unfolding a_hypothesis
+returns-in_err-rest c =
+    rw c.from_residual.ensures
+    (sym (left_whole _ ∙ none_then (part 2 c.args.bytes.now) _ (none_left _ c.after_part.ensures c.in_err-rest.was)))
 
-pub returns-then-end-from-lt2 : goal.returns-then-end-from-lt2
-returns-then-end-from-lt2 c = falls (hypothesis_short c.requires c.if-end-from-lt2.true)
-
-pub u16_at-tag-requires : goal.u16_at-tag-requires
-u16_at-tag-requires c = omega (arith, c.requires.order, c.requires.inside)
-
-pub overflow_add-from : goal.overflow_add-from
-overflow_add-from c = omega (arith, c.requires.order, c.requires.inside)
-
-pub after_tag-requires : goal.after_tag-requires
-after_tag-requires c = record { order = omega (arith, c.requires.order); inside = c.requires.inside }
+pub u16_at-requires : goal.u16_at-requires
+u16_at-requires c = (parted 2 c.args.bytes.now c.in_ok-rest.rest.now (some_left _ c.after_part.ensures c.in_ok-rest.was)).room
 
 pub returns : goal.returns
-returns c = hypothesis_cuts c.requires (omega arith) c.u16_at-tag.ensures.1 c.after_tag.ensures
+unfolding a_hypothesis
+returns c =
+    c.after_tag.ensures
+    ∙ sym (left_whole _
+    ∙ left_then (part 2 c.args.bytes.now) _ (some_left _ c.after_part.ensures c.in_ok-rest.was)
+    ∙ rw c.u16_at.ensures.1)

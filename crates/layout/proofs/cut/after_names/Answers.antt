@@ -1,23 +1,33 @@
+use mathlib.Core.Path.{sym, ◌∙◌}
 use native.Mathlib.Omega.{arith}
-use Rattle.paper.specs.Layout.{a_string, names_part}
-use Rattle.layout.specs.Cuts.{falls}
-use Rattle.layout.proofs.Cuts.{came, none, further, onward, stopped}
-use Rattle.layout.proofs.Hypotheses.{names_cuts}
+use Rattle.std.proofs.Common.{rules}
+use Rattle.paper.specs.Layout.{part, times, a_string, names_part}
+use Rattle.layout.proofs.Left.{some_left, none_left, parted, left_then, none_then, left_whole, names_passed}
 use Rattle.layout.proofs.cut.after_names.Goals as goal
 
-pub overflow_add-from : goal.overflow_add-from
-overflow_add-from c = omega (arith, c.requires.1, c.requires.0.inside)
-
-pub after_strings-requires : goal.after_strings-requires
-after_strings-requires c = record { order = c.requires.1; inside = c.requires.0.inside }
-
-pub returns-in_default : goal.returns-in_default
+pub returns-in_err-rest : goal.returns-in_err-rest
 unfolding names_part
-returns-in_default c = falls (stopped a_string (none (names_cuts c.requires.0 c.requires.1 c.requires.2 c.after_strings.ensures) c.in_default.is))
+returns-in_err-rest c =
+    rw c.from_residual.ensures
+    (sym (none_then _ a_string (left_whole _ ∙ none_then (part 4 c.args.bytes.now) _ (none_left _ c.after_part.ensures c.in_err-rest.was))))
 
-pub after_counted-requires : goal.after_counted-requires
-after_counted-requires c = (further c.requires.0 (came (names_cuts c.requires.0 c.requires.1 c.requires.2 c.after_strings.ensures) c.in-Upto.is), omega arith)
+pub u16_at-requires : goal.u16_at-requires
+u16_at-requires c = let p = parted 4 c.args.bytes.now c.in_ok-rest.rest.now (some_left _ c.after_part.ensures c.in_ok-rest.was) in omega (arith, p.room)
+
+pub returns-in_err-pool : goal.returns-in_err-pool
+unfolding names_part
+returns-in_err-pool c =
+    let z = c.after_times.ensures a_string (λ y s p. search rules) in
+    rw c.from_residual-in_err-pool.ensures
+    (sym (none_then _ a_string
+    (names_passed c.args.bytes.now c.u16_at.result c.u16_at.ensures.1 (some_left _ c.after_part.ensures c.in_ok-rest.was)
+    ∙ none_left (times c.u16_at.result a_string c.in_ok-rest.rest.now) z c.in_err-pool.was)))
 
 pub returns : goal.returns
 unfolding names_part
-returns c = onward a_string (came (names_cuts c.requires.0 c.requires.1 c.requires.2 c.after_strings.ensures) c.in-Upto.is) c.after_counted.ensures
+returns c =
+    let z = c.after_times.ensures a_string (λ y s p. search rules) in
+    c.after_string.ensures
+    ∙ sym (left_then _ a_string
+    (names_passed c.args.bytes.now c.u16_at.result c.u16_at.ensures.1 (some_left _ c.after_part.ensures c.in_ok-rest.was)
+    ∙ some_left (times c.u16_at.result a_string c.in_ok-rest.rest.now) z c.in_ok-pool.was))

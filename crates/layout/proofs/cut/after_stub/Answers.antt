@@ -1,20 +1,26 @@
 use mathlib.Core.Path.{sym, ◌∙◌}
 use native.Mathlib.Omega.{arith}
-use Rattle.layout.specs.Cuts.{comes, falls}
-use Rattle.layout.proofs.Hypotheses.{stub_short, stub_over, stub_came, stub_not}
+use Rattle.stream.proofs.Strings.{stops}
+use Rattle.layout.proofs.StubString.{stub_off, stub_not, stub_left}
 use Rattle.layout.proofs.cut.after_stub.Goals as goal
 
-pub overflow_sub-end : goal.overflow_sub-end
-overflow_sub-end c = c.requires.order
+pub returns-in_err-stop : goal.returns-in_err-stop
+returns-in_err-stop c = rw c.from_residual.ensures (stub_off c.args.bytes.now (sym c.string_stop.ensures ∙ c.in_err-stop.was))
 
-pub returns-then-end-from-lt4 : goal.returns-then-end-from-lt4
-returns-then-end-from-lt4 c = falls (stub_short c.requires c.if-end-from-lt4.true)
+pub slice_bounds-is_stub-count : goal.slice_bounds-is_stub-count
+slice_bounds-is_stub-count c = let s = stops c.args.bytes.now 0 _ _ (sym c.string_stop.ensures ∙ c.in_ok-stop.was) in omega arith
 
-pub returns-then-end-from : goal.returns-then-end-from
-returns-then-end-from c = falls (stub_over c.requires (omega arith) c.u32_at-length.ensures.1 c.if-end-from.true)
+pub slice_bounds-is_stub-start : goal.slice_bounds-is_stub-start
+slice_bounds-is_stub-start c = let s = stops c.args.bytes.now 0 _ _ (sym c.string_stop.ensures ∙ c.in_ok-stop.was) in omega arith
 
-pub returns-then-is_stub : goal.returns-then-is_stub
-returns-then-is_stub c = comes (stub_came c.requires (omega arith) c.u32_at-length.ensures.1 (omega arith) (sym c.is_stub.ensures ∙ c.if-is_stub.true))
+pub slice_bounds-is_stub-end : goal.slice_bounds-is_stub-end
+slice_bounds-is_stub-end c = let s = stops c.args.bytes.now 0 _ _ (sym c.string_stop.ensures ∙ c.in_ok-stop.was) in omega arith
+
+pub returns-then-not-is_stub : goal.returns-then-not-is_stub
+returns-then-not-is_stub c =
+    stub_not c.args.bytes.now (sym c.string_stop.ensures ∙ c.in_ok-stop.was) (sym c.is_stub.ensures ∙ c.if-not-is_stub.true)
 
 pub returns : goal.returns
-returns c = falls (stub_not c.requires (omega arith) c.u32_at-length.ensures.1 (omega arith) (sym c.is_stub.ensures ∙ c.if-is_stub.false))
+returns c =
+    c.after_part.ensures
+    ∙ stub_left c.args.bytes.now (sym c.string_stop.ensures ∙ c.in_ok-stop.was) (sym c.is_stub.ensures ∙ c.if-not-is_stub.false)

@@ -1,27 +1,28 @@
-use mathlib.Core.Path.{ap}
-use native.Mathlib.Omega.{arith}
-use Rattle.paper.specs.Layout.{skipped, a_string}
-use Rattle.layout.specs.Cuts.{falls, assertion_tail, assertion_parts}
-use Rattle.layout.proofs.Cuts.{came, none, further, onward, stopped, came_skipped}
+use mathlib.Core.Path.{sym, ◌∙◌}
+use Rattle.paper.specs.Layout.{an_address, a_string, label_part}
+use Rattle.layout.specs.Cuts.{assertion_tail, assertion_parts}
+use Rattle.layout.proofs.Left.{some_left, none_left, left_then, none_then, left_skipped}
 use Rattle.layout.proofs.whole.after_assertion.Goals as goal
 
-pub after_part-requires : goal.after_part-requires
-after_part-requires c = c.requires
-
-pub returns-in_default : goal.returns-in_default
+pub returns-in_err-label : goal.returns-in_err-label
 unfolding assertion_parts
-returns-in_default c = falls (stopped assertion_tail (stopped a_string (ap skipped (none c.after_part.ensures c.in_default.is))))
+returns-in_err-label c =
+    rw c.from_residual.ensures
+    (sym (none_then (label_part c.args.bytes.now) assertion_tail
+    (none_then (an_address c.args.bytes.now) a_string (left_skipped _ ∙ none_left _ c.after_part.ensures c.in_err-label.was))))
 
-pub after_counted-requires : goal.after_counted-requires
-after_counted-requires c = (further c.requires (came_skipped (came c.after_part.ensures c.in-Upto.is)), omega arith)
-
-pub returns-in_default-after_counted : goal.returns-in_default-after_counted
+pub returns-in_err-tail : goal.returns-in_err-tail
 unfolding assertion_parts
-returns-in_default-after_counted c = falls (stopped assertion_tail (none (onward a_string (came_skipped (came c.after_part.ensures c.in-Upto.is)) c.after_counted.ensures) c.in_default-after_counted.is))
-
-pub after_tail-requires : goal.after_tail-requires
-after_tail-requires c = further c.requires (came (onward a_string (came_skipped (came c.after_part.ensures c.in-Upto.is)) c.after_counted.ensures) c.in-Upto-after_counted.is)
+returns-in_err-tail c =
+    rw c.from_residual-in_err-tail.ensures
+    (sym (none_then (label_part c.args.bytes.now) assertion_tail
+    (left_then (an_address c.args.bytes.now) a_string (left_skipped _ ∙ some_left _ c.after_part.ensures c.in_ok-label.was)
+    ∙ none_left _ c.after_string.ensures c.in_err-tail.was)))
 
 pub returns : goal.returns
 unfolding assertion_parts
-returns c = onward assertion_tail (came (onward a_string (came_skipped (came c.after_part.ensures c.in-Upto.is)) c.after_counted.ensures) c.in-Upto-after_counted.is) c.after_tail.ensures
+returns c =
+    c.after_tail.ensures
+    ∙ sym (left_then (label_part c.args.bytes.now) assertion_tail
+    (left_then (an_address c.args.bytes.now) a_string (left_skipped _ ∙ some_left _ c.after_part.ensures c.in_ok-label.was)
+    ∙ some_left _ c.after_string.ensures c.in_ok-tail.was))

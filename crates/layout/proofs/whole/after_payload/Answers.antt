@@ -1,30 +1,39 @@
-use Rattle.layout.specs.Cuts.{falls}
-use Rattle.layout.proofs.Tails.{payload_plain, payload_stub, payload_axiom, payload_theorem, payload_none}
+use mathlib.Core.Path.{sym, ◌∙◌}
+use mathlib.Core.Logic.{inl, inr}
+use native.Mathlib.Omega.{arith}
+use Rattle.paper.specs.Layout.{a_string, a_stub, float_head}
+use Rattle.layout.proofs.Left.{some_left, none_left, left_then, none_then, payload_plain, payload_stub, payload_assertion, payload_none}
 use Rattle.layout.proofs.whole.after_payload.Goals as goal
+use Rattle.layout.proofs.whole.after_payload.Goals.{in_default-via-then-this-lt1, in_default-via-else-this-lt1+else-this-lt4}
 
-pub after_float-requires : goal.after_float-requires
-after_float-requires c = c.requires
+pub returns-in_err-after_head-in-4 : goal.returns-in_err-after_head-in-4
+returns-in_err-after_head-in-4 c =
+    rw c.from_residual.ensures
+    (sym (none_then (float_head c.args.bytes.now) a_string (none_left _ c.after_head.ensures c.in_err-after_head-in-4.was))
+    ∙ payload_plain c.args.kind c.args.bytes.now c.in-4.is)
 
-pub returns-then-kind-eq4 : goal.returns-then-kind-eq4
-returns-then-kind-eq4 c = payload_plain c.if-kind-eq4.true c.after_float.ensures
+pub returns-in_err-after_head-in-1 : goal.returns-in_err-after_head-in-1
+returns-in_err-after_head-in-1 c =
+    rw c.from_residual-in_err-after_head-in-1.ensures
+    (sym (none_then (float_head c.args.bytes.now) a_stub (none_left _ c.after_head-in-1.ensures c.in_err-after_head-in-1.was))
+    ∙ payload_stub c.args.kind c.args.bytes.now c.in-1.is)
 
-pub after_float-requires-then-kind-eq1 : goal.after_float-requires-then-kind-eq1
-after_float-requires-then-kind-eq1 c = c.requires
+pub returns-in_ok-after_head-in-4 : goal.returns-in_ok-after_head-in-4
+returns-in_ok-after_head-in-4 c =
+    c.after_string.ensures
+    ∙ sym (left_then (float_head c.args.bytes.now) a_string (some_left _ c.after_head.ensures c.in_ok-after_head-in-4.was))
+    ∙ payload_plain c.args.kind c.args.bytes.now c.in-4.is
 
-pub returns-then-kind-eq1 : goal.returns-then-kind-eq1
-returns-then-kind-eq1 c = payload_stub c.if-kind-eq1.true c.after_float-then-kind-eq1.ensures
+pub returns-in_ok-after_head-in-1 : goal.returns-in_ok-after_head-in-1
+returns-in_ok-after_head-in-1 c =
+    c.after_stub.ensures
+    ∙ sym (left_then (float_head c.args.bytes.now) a_stub (some_left _ c.after_head-in-1.ensures c.in_ok-after_head-in-1.was))
+    ∙ payload_stub c.args.kind c.args.bytes.now c.in-1.is
 
-pub after_assertion-requires : goal.after_assertion-requires
-after_assertion-requires c = c.requires
+pub returns-in-2 : goal.returns-in-2
+returns-in-2 c = c.after_assertion.ensures ∙ payload_assertion c.args.kind c.args.bytes.now (omega arith) (omega arith)
 
-pub returns-then-kind-eq2 : goal.returns-then-kind-eq2
-returns-then-kind-eq2 c = payload_axiom c.if-kind-eq2.true c.after_assertion.ensures
-
-pub after_assertion-requires-then-kind-eq3 : goal.after_assertion-requires-then-kind-eq3
-after_assertion-requires-then-kind-eq3 c = c.requires
-
-pub returns-then-kind-eq3 : goal.returns-then-kind-eq3
-returns-then-kind-eq3 c = payload_theorem c.if-kind-eq3.true c.after_assertion-then-kind-eq3.ensures
-
-pub returns : goal.returns
-returns c = falls (payload_none _ _ c.if-kind-eq4.false c.if-kind-eq1.false c.if-kind-eq2.false c.if-kind-eq3.false)
+pub returns-in_default : goal.returns-in_default
+returns-in_default c =
+    payload_none c.args.kind c.args.bytes.now
+    (elim c.in_default.branch [ in_default-via-then-this-lt1 w ↦ inl (omega arith) | in_default-via-else-this-lt1+else-this-lt4 w ↦ inr (omega arith) ])

@@ -1,28 +1,38 @@
+use mathlib.Core.Path.{sym, ◌∙◌}
 use native.Mathlib.Omega.{arith}
-use Rattle.layout.proofs.Cuts.{came, none}
-use Rattle.layout.proofs.Fit.{fitting_few, fitting_small, fitting_over, fitting_short, fitting_left, fitting_all}
+use Rattle.std.proofs.Common.{rules}
+use Rattle.stream.proofs.Strings.{stops}
+use Rattle.layout.proofs.Left.{some_left, none_left}
+use Rattle.layout.proofs.Fit.{fitting_few, fitting_off, fitting_none, fitting_short, fitting_left, fitting_all}
 use Rattle.layout.proofs.whole.after_record.Goals as goal
 
 pub returns-then-bytes-at : goal.returns-then-bytes-at
 returns-then-bytes-at c = fitting_few c.args.bytes.now c.args.at (omega arith)
 
-pub returns-then-rest-lt6 : goal.returns-then-rest-lt6
-returns-then-rest-lt6 c = fitting_few c.args.bytes.now c.args.at (omega arith)
+pub returns-in_err-end : goal.returns-in_err-end
+returns-in_err-end c = c.from_residual.ensures ∙ fitting_off c.args.bytes.now c.args.at (sym c.string_stop.ensures ∙ c.in_err-end.was)
 
-pub returns-then-length-lt2 : goal.returns-then-length-lt2
-returns-then-length-lt2 c = fitting_small c.args.bytes.now c.args.at (omega (arith, c.u32_at-length.ensures.1))
+pub returns-then-end-at : goal.returns-then-end-at
+returns-then-end-at c = fitting_none c.args.bytes.now c.args.at (sym c.string_stop.ensures ∙ c.in_ok-end.was) c.if-end-at.true
 
-pub returns-then-rest-length : goal.returns-then-rest-length
-returns-then-rest-length c = fitting_over c.args.bytes.now c.args.at (omega arith) (omega (arith, c.u32_at-length.ensures.1))
+pub u16_at-kind-requires : goal.u16_at-kind-requires
+u16_at-kind-requires c = let s = stops c.args.bytes.now c.args.at _ _ (sym c.string_stop.ensures ∙ c.in_ok-end.was) in omega arith
 
-pub after_payload-requires : goal.after_payload-requires
-after_payload-requires c = record { order = omega arith; inside = omega arith }
+pub slice_bounds-after_payload-end : goal.slice_bounds-after_payload-end
+slice_bounds-after_payload-end c = let s = stops c.args.bytes.now c.args.at _ _ (sym c.string_stop.ensures ∙ c.in_ok-end.was) in omega arith
 
-pub returns-in_default : goal.returns-in_default
-returns-in_default c = fitting_short c.args.bytes.now c.args.at (omega (arith, c.u32_at-length.ensures.1)) (omega (arith, c.u32_at-length.ensures.1)) c.u16_at-kind.ensures.1 c.u32_at-length.ensures.1 (none c.after_payload.ensures c.in_default.is)
+pub returns-in_err-rest : goal.returns-in_err-rest
+returns-in_err-rest c =
+    c.from_residual-in_err-rest.ensures
+    ∙ fitting_short c.args.bytes.now c.args.at (sym c.string_stop.ensures ∙ c.in_ok-end.was) c.if-end-at.false c.u16_at-kind.ensures.1
+    (none_left _ c.after_payload.ensures c.in_err-rest.was)
 
-pub returns-then-last-end : goal.returns-then-last-end
-returns-then-last-end c = fitting_all c.args.bytes.now c.args.at (omega (arith, c.u32_at-length.ensures.1)) (omega (arith, c.u32_at-length.ensures.1)) c.u16_at-kind.ensures.1 c.u32_at-length.ensures.1 (came c.after_payload.ensures c.in-Upto.is) c.if-last-end.true
+pub returns-then-not-is_empty : goal.returns-then-not-is_empty
+returns-then-not-is_empty c =
+    fitting_left c.args.bytes.now c.args.at (sym c.string_stop.ensures ∙ c.in_ok-end.was) c.if-end-at.false c.u16_at-kind.ensures.1
+    (some_left _ c.after_payload.ensures c.in_ok-rest.was) (λ e. search rules)
 
 pub returns : goal.returns
-returns c = fitting_left c.args.bytes.now c.args.at (omega (arith, c.u32_at-length.ensures.1)) (omega (arith, c.u32_at-length.ensures.1)) c.u16_at-kind.ensures.1 c.u32_at-length.ensures.1 (came c.after_payload.ensures c.in-Upto.is) c.if-last-end.false
+returns c =
+    fitting_all c.args.bytes.now c.args.at (sym c.string_stop.ensures ∙ c.in_ok-end.was) c.if-end-at.false c.u16_at-kind.ensures.1
+    (some_left _ c.after_payload.ensures c.in_ok-rest.was) (search rules)

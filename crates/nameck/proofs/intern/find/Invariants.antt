@@ -1,10 +1,13 @@
-use Prim.Native.Nat.{◌-◌}
+use Prim.Native.Nat.{◌-◌, ◌*◌, ◌<◌}
+use Rattle.area.specs.Cells.{word}
 use Rattle.nameck.specs.Table.{name_at}
 use Rattle.nameck.proofs.Found.{Walk}
 use Rattle.nameck.proofs.intern.find.Given as goal
 
-abbrev pub invariant-loop-row : goal.invariant-loop-row
-invariant-loop-row l = Walk l.work l.n l.names (name_at l.text l.work l.n) l.s l.cell l.row l.d
+abbrev pub invariant-loop-before : goal.invariant-loop-before
+invariant-loop-before l =
+    (l.cell < 15 * l.n)
+    × Walk l.work l.n l.names (name_at l.text l.work l.n) l.name.bytes.now l.cell (word l.work l.cell) l.d
 
-abbrev pub decreases-loop-row : goal.decreases-loop-row
-decreases-loop-row l = l.names - l.d
+abbrev pub decreases-loop-before : goal.decreases-loop-before
+decreases-loop-before l = l.names - l.d

@@ -4,20 +4,17 @@ use Rattle.nameck.proofs.Search.{found_few}
 use Rattle.nameck.proofs.Added.{ended_in, intern_old, intern_new}
 use Rattle.nameck.proofs.intern.intern.Goals as goal
 
-pub find-p-requires : goal.find-p-requires
-find-p-requires c = (c.requires.0.spans, c.requires.0.linked, omega (arith, c.requires.0.free), c.requires.1)
-
 pub overflow_cast-result : goal.overflow_cast-result
-overflow_cast-result c = omega (arith, c.requires.0.spans.rows, c.requires.0.spans.small, found_few _ _ _ _ _ _ c.find-p.ensures.0)
+overflow_cast-result c = omega (arith, c.requires.0.spans.rows, c.requires.0.spans.small, found_few _ _ _ _ _ _ c.in-Ok.ensures)
 
-pub returns-then-p-ne0 : goal.returns-then-p-ne0
-returns-then-p-ne0 c = intern_old c.requires.0 c.find-p.ensures.0 c.if-p-ne0.true
+pub returns-in-Ok : goal.returns-in-Ok
+returns-in-Ok c = intern_old c.requires.0 c.in-Ok.ensures
 
 pub offset_bounds-work-cell : goal.offset_bounds-work-cell
-offset_bounds-work-cell c = omega (arith, ended_in c.requires.0 (c.find-p.ensures.1 c.if-p-ne0.false), c.requires.0.spans.small)
+offset_bounds-work-cell c = omega (arith, ended_in c.requires.0 c.in-Err.ensures.1, c.requires.0.spans.small)
 
 pub bounds-work-cell : goal.bounds-work-cell
-bounds-work-cell c = omega (arith, ended_in c.requires.0 (c.find-p.ensures.1 c.if-p-ne0.false), c.requires.0.spans.room, c.add_name.auto.work)
+bounds-work-cell c = omega (arith, ended_in c.requires.0 c.in-Err.ensures.1, c.requires.0.spans.room, c.add_name.auto.work)
 
 pub returns : goal.returns
-returns c = intern_new c.requires.0 c.find-p.ensures.0 c.find-p.ensures.1 c.if-p-ne0.false c.add_name.ensures refl
+returns c = intern_new c.requires.0 c.in-Err.ensures c.add_name.ensures refl

@@ -5,6 +5,6 @@ pub returns-then-right : goal.returns-then-right
 unfolding link
 returns-then-right c = rw c.if-right.true c.symbol.ensures
 
-pub returns : goal.returns
+pub returns-else-right : goal.returns-else-right
 unfolding link
-returns c = rw c.if-right.false c.name.ensures
+returns-else-right c = rw c.if-right.false c.name.ensures

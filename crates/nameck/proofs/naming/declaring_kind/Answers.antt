@@ -1,16 +1,27 @@
 use native.Mathlib.Omega.{arith}
-use borrow.Author.Tests.{eq-eqb, ne_eqb, le-leb, lt-leb}
+use borrow.Author.Tests.{eq-eqb, ne_eqb}
 use Rattle.nameck.specs.Naming.{declaring}
 use Rattle.nameck.proofs.naming.declaring_kind.Goals as goal
 
-pub returns-then-end-eq-NO_END : goal.returns-then-end-eq-NO_END
+pub returns-then-end-ne-NO_END : goal.returns-then-end-ne-NO_END
 unfolding declaring
-returns-then-end-eq-NO_END c = rw (le-leb _ _ c.if-kind-le2.true, eq-eqb c.args.end 4294967295 (omega (arith, c.if-end-eq-NO_END.true)))
+returns-then-end-ne-NO_END c =
+    rw (ne_eqb c.args.end 4294967295 (λ e. omega (arith, e, c.if-end-ne-NO_END.true)))
 
-pub returns-else-end-eq-NO_END : goal.returns-else-end-eq-NO_END
+pub returns-in-1 : goal.returns-in-1
 unfolding declaring
-returns-else-end-eq-NO_END c = rw (le-leb _ _ c.if-kind-le2.true, ne_eqb c.args.end 4294967295 (λ e. omega (arith, e, c.if-end-eq-NO_END.false)))
+returns-in-1 c = rw (c.in-1.is, eq-eqb c.args.end 4294967295 (omega (arith, c.if-end-ne-NO_END.false)))
 
-pub returns-else-kind-le2 : goal.returns-else-kind-le2
+pub returns-in-2 : goal.returns-in-2
 unfolding declaring
-returns-else-kind-le2 c = rw (lt-leb _ _ c.if-kind-le2.false)
+returns-in-2 c = rw (c.in-2.is, eq-eqb c.args.end 4294967295 (omega (arith, c.if-end-ne-NO_END.false)))
+
+pub returns-in_default : goal.returns-in_default
+unfolding declaring
+returns-in_default c =
+    let h = c.in_default in
+    rw (
+      eq-eqb c.args.end 4294967295 (omega (arith, c.if-end-ne-NO_END.false)),
+      ne_eqb c.args.kind 1 (λ e. omega (arith, e, h)),
+      ne_eqb c.args.kind 2 (λ e. omega (arith, e, h)),
+    )

@@ -1,22 +1,18 @@
 use native.Mathlib.Omega.{arith}
 use Rattle.nameck.proofs.Whole.{all_begin, some_statement, all_step, all_end}
-use borrow.Author.Rules.{rules}
 use Rattle.nameck.proofs.naming.name_all.Goals as goal
 
 pub loop-s-init : goal.loop-s-init
-loop-s-init c = (search rules, all_begin _ _ _ _)
+loop-s-init c = all_begin _ _ _ _
 
 pub name_statement-k-requires : goal.name_statement-k-requires
-name_statement-k-requires c = (c.table-table.ensures, some_statement c.loop-s.invariant.1 (search rules) c.requires)
-
-pub overflow_add-s : goal.overflow_add-s
-overflow_add-s c = omega arith
+name_statement-k-requires c = some_statement c.loop-s.invariant (omega arith) c.requires
 
 pub loop-s-preserved : goal.loop-s-preserved
-loop-s-preserved c = (omega arith, all_step c.loop-s.invariant.1 (omega arith) c.name_statement-k.ensures c.name_statement-k.auto.work)
+loop-s-preserved c = all_step c.loop-s.invariant (omega arith) c.name_statement-k.ensures c.name_statement-k.auto.work
 
 pub shape_of-work : goal.shape_of-work
-shape_of-work c = c.loop-s.invariant.1.len
+shape_of-work c = c.loop-s.invariant.len
 
 pub returns : goal.returns
-returns c = all_end c.loop-s.invariant.1 (omega arith)
+returns c = all_end c.loop-s.invariant (omega arith)

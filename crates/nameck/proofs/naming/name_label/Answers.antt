@@ -20,7 +20,11 @@ pub slice_bounds-hash_of-end : goal.slice_bounds-hash_of-end
 slice_bounds-hash_of-end c = let k = some_label c.statement.ensures c.statement-2.ensures c.statement-3.ensures (λ z. omega (arith, c.if-work-statement-lt4.false)) c.requires in k.fits
 
 pub intern-got-requires : goal.intern-got-requires
-intern-got-requires c = (some_label c.statement.ensures c.statement-2.ensures c.statement-3.ensures (λ z. omega (arith, c.if-work-statement-lt4.false)) c.requires, c.hash_of-h.ensures.0)
+intern-got-requires c = (
+  some_label c.statement.ensures c.statement-2.ensures c.statement-3.ensures
+      (λ z. omega (arith, c.if-work-statement-lt4.false)) c.requires,
+  c.hash_of-hashed.ensures.0,
+)
 
 pub overflow_cast-at-2 : goal.overflow_cast-at-2
 overflow_cast-at-2 c = omega (arith, c.slice_known-3-1.given c.statement-2.result)

@@ -5,8 +5,8 @@ use lib.ListN.{length, drop}
 use Rattle.reader.specs.Dollar.{mark_first}
 use Rattle.reader.proofs.comment.next_mark.Given as goal
 
-abbrev pub invariant-loop-at : goal.invariant-loop-at
-invariant-loop-at l = (l.at ≤ l.i) × (l.i ≤ length l.text) × ((j : ℕ) → l.at ≤ j → j < l.i → mark_first (drop j l.text) ≡ false)
+abbrev pub invariant-loop-k : goal.invariant-loop-k
+invariant-loop-k l = (l.at ≤ l.i) × (l.i ≤ length l.text) × ((j : ℕ) → l.at ≤ j → j < l.i → mark_first (drop j l.text) ≡ false)
 
-abbrev pub decreases-loop-at : goal.decreases-loop-at
-decreases-loop-at l = length l.text - l.i
+abbrev pub decreases-loop-k : goal.decreases-loop-k
+decreases-loop-k l = length l.text - l.i

@@ -7,6 +7,3 @@ use Rattle.reader.proofs.comment.start_of.Given as goal
 
 abbrev pub invariant-loop-i : goal.invariant-loop-i
 invariant-loop-i l = (l.at ≤ l.i) × (l.i ≤ l.k) × ((j : ℕ) → l.i ≤ j → j < l.k → white (get_or l.text j 0) ≡ false)
-
-abbrev pub decreases-loop-i : goal.decreases-loop-i
-decreases-loop-i l = l.i

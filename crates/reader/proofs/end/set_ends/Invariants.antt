@@ -2,7 +2,4 @@ use Rattle.reader.specs.Ends.{Backward}
 use Rattle.reader.proofs.end.set_ends.Given as goal
 
 abbrev pub invariant-loop-j : goal.invariant-loop-j
-invariant-loop-j l = Backward l.initial.work l.work l.n l.rows l.items l.j l.row l.depth
-
-abbrev pub decreases-loop-j : goal.decreases-loop-j
-decreases-loop-j l = l.j
+invariant-loop-j l = Backward l.initial.work l.work l.n l.rows l.items l.j l.b.row l.b.depth

@@ -2,4 +2,4 @@ use mathlib.Core.Path.{refl}
 use Rattle.reader.proofs.item.open_group.Goals as goal
 
 pub returns : goal.returns
-returns c = (rw c.bucket-cell.ensures, refl)
+returns c = (rw c.bucket.ensures, refl)

@@ -22,10 +22,10 @@ shows : {t : List ℕ} {i : ℕ} {x : Span} {c : Cursor} (b : Bool) → Read t i
 shows {x = x} b r e = look_math r (leb-true 3 x.least (and_both (leb 3 x.least) b e).0)
 
 pub loop-x-init : goal.loop-x-init
-loop-x-init c = stretch_start _ _ c.requires.1 c.requires.2
+loop-x-init c = stretch_start _ _ c.requires.0 c.requires.1
 
 pub next-requires : goal.next-requires
-next-requires c = (c.requires.0, c.loop-x.invariant.lined)
+next-requires c = c.loop-x.invariant.lined
 
 pub shape_of-work-in_default : goal.shape_of-work-in_default
 shape_of-work-in_default c = c.loop-x.invariant.len
@@ -40,25 +40,25 @@ pub returns-then-not-takes : goal.returns-then-not-takes
 returns-then-not-takes c = c.loop-x.invariant
 
 pub overflow_add-first : goal.overflow_add-first
-overflow_add-first c = omega (arith, room_fits c.loop-x.invariant.room (shows _ (took c.in-Token.is c.next.ensures) (sym c.takes.ensures ∙ c.if-not-takes.false)), c.loop-x.invariant.room.small)
+overflow_add-first c = omega (arith, room_fits c.loop-x.invariant.room (shows _ (took c.in-Some.is c.next.ensures) (sym c.takes.ensures ∙ c.if-not-takes.false)), c.loop-x.invariant.room.small)
 
-pub math-cell-requires : goal.math-cell-requires
-math-cell-requires c = (omega (arith, c.loop-x.invariant.room.small), omega (arith, room_fits c.loop-x.invariant.room (shows _ (took c.in-Token.is c.next.ensures) (sym c.takes.ensures ∙ c.if-not-takes.false)), c.loop-x.invariant.room.small))
+pub math-requires : goal.math-requires
+math-requires c = (omega (arith, c.loop-x.invariant.room.small), omega (arith, room_fits c.loop-x.invariant.room (shows _ (took c.in-Some.is c.next.ensures) (sym c.takes.ensures ∙ c.if-not-takes.false)), c.loop-x.invariant.room.small))
 
 pub overflow_cast-work : goal.overflow_cast-work
-overflow_cast-work c = omega (arith, (shows _ (took c.in-Token.is c.next.ensures) (sym c.takes.ensures ∙ c.if-not-takes.false)).whole.some, (shows _ (took c.in-Token.is c.next.ensures) (sym c.takes.ensures ∙ c.if-not-takes.false)).whole.within, c.loop-x.invariant.room.short)
+overflow_cast-work c = omega (arith, (shows _ (took c.in-Some.is c.next.ensures) (sym c.takes.ensures ∙ c.if-not-takes.false)).whole.some, (shows _ (took c.in-Some.is c.next.ensures) (sym c.takes.ensures ∙ c.if-not-takes.false)).whole.within, c.loop-x.invariant.room.short)
 
-pub offset_bounds-work-cell : goal.offset_bounds-work-cell
-offset_bounds-work-cell c = omega (arith, room_fits c.loop-x.invariant.room (shows _ (took c.in-Token.is c.next.ensures) (sym c.takes.ensures ∙ c.if-not-takes.false)), c.loop-x.invariant.room.small, c.math-cell.ensures)
+pub offset_bounds-work-math : goal.offset_bounds-work-math
+offset_bounds-work-math c = omega (arith, room_fits c.loop-x.invariant.room (shows _ (took c.in-Some.is c.next.ensures) (sym c.takes.ensures ∙ c.if-not-takes.false)), c.loop-x.invariant.room.small, c.math.ensures)
 
-pub bounds-work-cell : goal.bounds-work-cell
-bounds-work-cell c = omega (arith, room_fits c.loop-x.invariant.room (shows _ (took c.in-Token.is c.next.ensures) (sym c.takes.ensures ∙ c.if-not-takes.false)), c.loop-x.invariant.room.room, c.math-cell.ensures)
+pub bounds-work-math : goal.bounds-work-math
+bounds-work-math c = omega (arith, room_fits c.loop-x.invariant.room (shows _ (took c.in-Some.is c.next.ensures) (sym c.takes.ensures ∙ c.if-not-takes.false)), c.loop-x.invariant.room.room, c.math.ensures)
 
 pub overflow_add-count : goal.overflow_add-count
-overflow_add-count c = omega (arith, room_fits c.loop-x.invariant.room (shows _ (took c.in-Token.is c.next.ensures) (sym c.takes.ensures ∙ c.if-not-takes.false)), c.loop-x.invariant.room.small)
+overflow_add-count c = omega (arith, room_fits c.loop-x.invariant.room (shows _ (took c.in-Some.is c.next.ensures) (sym c.takes.ensures ∙ c.if-not-takes.false)), c.loop-x.invariant.room.small)
 
 pub loop-x-smaller : goal.loop-x-smaller
-loop-x-smaller c = omega (arith, passed_few (shows _ (took c.in-Token.is c.next.ensures) (sym c.takes.ensures ∙ c.if-not-takes.false)).passed)
+loop-x-smaller c = omega (arith, passed_few (shows _ (took c.in-Some.is c.next.ensures) (sym c.takes.ensures ∙ c.if-not-takes.false)).passed)
 
 pub loop-x-preserved : goal.loop-x-preserved
-loop-x-preserved c = stretch_more c.loop-x.invariant (shows _ (took c.in-Token.is c.next.ensures) (sym c.takes.ensures ∙ c.if-not-takes.false)) (sym c.takes.ensures ∙ c.if-not-takes.false) (ap (λ (i : ℕ). set c.loop-x.work i c.in-Token.x.start) c.math-cell.ensures)
+loop-x-preserved c = stretch_more c.loop-x.invariant (shows _ (took c.in-Some.is c.next.ensures) (sym c.takes.ensures ∙ c.if-not-takes.false)) (sym c.takes.ensures ∙ c.if-not-takes.false) (ap (λ (i : ℕ). set c.loop-x.work i c.in-Some.x.start) c.math.ensures)

@@ -6,7 +6,7 @@ pub unreachable-requires : goal.unreachable-requires
 unreachable-requires c = not_nobody c.requires.2 (rw c.in_default.is at c.lookup_label.ensures)
 
 pub returns-then-o-s : goal.returns-then-o-s
-returns-then-o-s c = owns_by (rw c.in-At.is at c.lookup_label.ensures) (rw (eq-eqb _ _ c.if-o-s.true))
+returns-then-o-s c = owns_by (rw c.in-Some.is at c.lookup_label.ensures) (rw (eq-eqb _ _ c.if-o-s.true))
 
 pub returns : goal.returns
-returns c = owns_by (rw c.in-At.is at c.lookup_label.ensures) (rw (ne_eqb _ _ c.if-o-s.false))
+returns c = owns_by (rw c.in-Some.is at c.lookup_label.ensures) (rw (ne_eqb _ _ c.if-o-s.false))

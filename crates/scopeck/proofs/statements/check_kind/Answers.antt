@@ -10,13 +10,19 @@ pub of_statement-to-requires : goal.of_statement-to-requires
 of_statement-to-requires c = let b = c.requires.holds in (b.room, row_room b, omega arith)
 
 pub slice_bounds-check_part-count : goal.slice_bounds-check_part-count
-slice_bounds-check_part-count c = let b = c.requires.holds in omega (arith, c.of_statement-from.ensures, c.of_statement-to.ensures, b.named.shape.from_to c.args.row b.inside)
+slice_bounds-check_part-count c =
+    let b = c.requires.holds in
+    omega (arith, c.of_statement-from.ensures, c.of_statement-to.ensures, b.named.shape.from_to c.args.row b.inside)
 
 pub slice_bounds-check_part-start : goal.slice_bounds-check_part-start
-slice_bounds-check_part-start c = let b = c.requires.holds in omega (arith, c.of_statement-from.ensures, c.of_statement-to.ensures, b.named.shape.from_to c.args.row b.inside)
+slice_bounds-check_part-start c =
+    let b = c.requires.holds in
+    omega (arith, c.of_statement-from.ensures, c.of_statement-to.ensures, b.named.shape.from_to c.args.row b.inside)
 
 pub slice_bounds-check_part-end : goal.slice_bounds-check_part-end
-slice_bounds-check_part-end c = let b = c.requires.holds in omega (arith, c.of_statement-to.ensures, b.named.shape.within c.args.row b.inside)
+slice_bounds-check_part-end c =
+    let b = c.requires.holds in
+    omega (arith, c.of_statement-to.ensures, b.named.shape.within c.args.row b.inside)
 
 pub check_part-requires : goal.check_part-requires
 check_part-requires c = some_part c.requires (part_is _ _ _ c.of_statement-from.ensures c.of_statement-to.ensures)

@@ -13,10 +13,17 @@ pub still_active-ds-requires : goal.still_active-ds-requires
 still_active-ds-requires c = deep_dis c.requires.holds
 
 pub check_kind-next-requires : goal.check_kind-next-requires
-check_kind-next-requires c = record { of = c.requires.of; holds = ready_of c.requires.holds c.of_statement.ensures c.still_active-es.ensures c.still_active-ds.ensures }
+check_kind-next-requires c =
+    record {
+      of = c.requires.of;
+      holds = ready_of c.requires.holds c.of_statement.ensures c.still_active-es.ensures c.still_active-ds.ensures;
+    }
 
 pub mark_accepted-requires : goal.mark_accepted-requires
-mark_accepted-requires c = let b = c.requires.holds in (room_kept (c.check_kind-next.ensures.sim (ready_of b c.of_statement.ensures c.still_active-es.ensures c.still_active-ds.ensures)).kept b.room, before_room b)
+mark_accepted-requires c =
+    let b = c.requires.holds in
+    (room_kept (c.check_kind-next.ensures.sim (ready_of b c.of_statement.ensures c.still_active-es.ensures c.still_active-ds.ensures)).kept b.room, before_room b)
 
 pub returns : goal.returns
-returns c = steps_of c.requires c.of_statement.ensures c.still_active-es.ensures c.still_active-ds.ensures c.check_kind-next.ensures c.mark_accepted.ensures
+returns c =
+    steps_of c.requires c.of_statement.ensures c.still_active-es.ensures c.still_active-ds.ensures c.check_kind-next.ensures c.mark_accepted.ensures

@@ -1,4 +1,4 @@
-use mathlib.Core.Path.{◌∙◌, sym}
+use mathlib.Core.Path.{◌≡◌, ◌∙◌, sym}
 use native.Mathlib.Omega.{arith}
 use Rattle.slots.proofs.Stacks.{end_is}
 use Rattle.slots.proofs.Lowest.{global_start, global_step, global_end}
@@ -20,4 +20,6 @@ pub loop-k-preserved : goal.loop-k-preserved
 loop-k-preserved c = global_step c.loop-k.invariant (omega arith) (sym (end_is _ _ _ _ _ c.of_statement-row.ensures c.of_statement-end.ensures) ∙ c.if-end.false)
 
 pub returns : goal.returns
-returns c = global_end c.loop-k.invariant (λ h e. omega arith)
+returns c =
+    let e : c.loop-k.k ≡ c.args.ds = omega arith in
+    global_end (rw e at c.loop-k.invariant) (λ h e. omega arith)

@@ -1,10 +1,6 @@
 use mathlib.Core.Path.{◌≡◌}
-use Prim.Native.Nat.{◌≤◌}
 use Rattle.slots.specs.Stack.{pop_of}
 use Rattle.slots.proofs.stack.still_active.Given as goal
 
 abbrev pub invariant-loop-k : goal.invariant-loop-k
-invariant-loop-k l = (l.k ≤ l.depth) × (pop_of l.work l.column l.k l.here.0 ≡ pop_of l.work l.column l.depth l.here.0)
-
-abbrev pub decreases-loop-k : goal.decreases-loop-k
-decreases-loop-k l = l.k
+invariant-loop-k l = pop_of l.work l.column l.k l.here.0 ≡ pop_of l.work l.column l.depth l.here.0

@@ -2,10 +2,10 @@ use mathlib.Core.Path.{sym, ◌∙◌}
 use Rattle.stream.specs.Fields.{kind_at}
 use Rattle.stream.proofs.field.kind_at.Goals as goal
 
-pub returns-in-Well : goal.returns-in-Well
+pub returns-in_err-record_at : goal.returns-in_err-record_at
 unfolding kind_at
-returns-in-Well c = rw (sym c.record_at.ensures ∙ c.in-Well.is)
+returns-in_err-record_at c = rw (sym c.record_at.ensures ∙ c.in_err-record_at.was) c.from_residual.ensures
 
-pub returns-in-Badly : goal.returns-in-Badly
+pub returns : goal.returns
 unfolding kind_at
-returns-in-Badly c = rw (sym c.record_at.ensures ∙ c.in-Badly.is)
+returns c = rw (sym c.record_at.ensures ∙ c.in_ok-record_at.was)

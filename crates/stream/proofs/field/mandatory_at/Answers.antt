@@ -4,16 +4,16 @@ use Rattle.stream.specs.Fields.{mandatory_at}
 use Rattle.stream.proofs.Fields.{counted}
 use Rattle.stream.proofs.field.mandatory_at.Goals as goal
 
-pub returns-in_default : goal.returns-in_default
+pub returns-in_err-counts : goal.returns-in_err-counts
 unfolding mandatory_at
-returns-in_default c = rw (sym c.counts_at.ensures ∙ c.in_default.is)
+returns-in_err-counts c = rw (sym c.counts_at.ensures ∙ c.in_err-counts.was) c.from_residual.ensures
 
-pub overflow_add-p : goal.overflow_add-p
-overflow_add-p c = omega (arith, (counted _ _ _ _ (sym c.counts_at.ensures ∙ c.in-From.is)).room, (counted _ _ _ _ (sym c.counts_at.ensures ∙ c.in-From.is)).within)
+pub overflow_add-counts : goal.overflow_add-counts
+overflow_add-counts c = let h = counted _ _ _ (sym c.counts_at.ensures ∙ c.in_ok-counts.was) in omega arith
 
 pub u16_at-requires : goal.u16_at-requires
-u16_at-requires c = omega (arith, (counted _ _ _ _ (sym c.counts_at.ensures ∙ c.in-From.is)).room, (counted _ _ _ _ (sym c.counts_at.ensures ∙ c.in-From.is)).within)
+u16_at-requires c = let h = counted _ _ _ (sym c.counts_at.ensures ∙ c.in_ok-counts.was) in omega arith
 
 pub returns : goal.returns
 unfolding mandatory_at
-returns c = rw (sym c.counts_at.ensures ∙ c.in-From.is, c.u16_at.ensures.1)
+returns c = rw (sym c.counts_at.ensures ∙ c.in_ok-counts.was, c.u16_at.ensures.1)

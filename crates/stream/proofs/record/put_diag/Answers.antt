@@ -14,10 +14,10 @@ returns c = (
   omega arith,
   record {
     wrote =
-        wrote_then c.put_u32-a.ensures.1
-        (wrote_then c.put_u16-b.ensures.1
-        (wrote_then c.put_u32-c.ensures.1
-        (wrote_then c.put_u32-d.ensures.1 c.put_u32.ensures.1)));
+        wrote_then c.put_u32-at.ensures.1
+        (wrote_then c.put_u16-at.ensures.1
+        (wrote_then c.put_u32-at-2.ensures.1
+        (wrote_then c.put_u32-at-3.ensures.1 c.put_u32.ensures.1)));
     short = λ h. absurd (omega arith);
   },
 )

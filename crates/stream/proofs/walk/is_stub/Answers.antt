@@ -1,17 +1,28 @@
-use mathlib.Core.Path.{refl, ◌∙◌}
-use native.Mathlib.Omega.{arith}
-use Rattle.stream.proofs.Stubs.{stub_first, stub_low, stub_none}
-use borrow.Author.Rules.{rules}
+use mathlib.Core.Path.{◌≡◌, ◌∙◌}
+use mathlib.Core.List.{[], ◌∷◌, ◌++◌}
+use Rattle.std.proofs.Common.{rules, tests}
+use Rattle.std.proofs.lemmas.Bool.{lt-leb}
+use Rattle.std.proofs.lemmas.Iterator.{YieldsList-from_slice}
+use Rattle.std.proofs.lemmas.Iterator.Search.{all_from_yields_List}
+use Rattle.stream.proofs.Stubs.{low, stub_high, stub_low, stub_none}
 use Rattle.stream.proofs.walk.is_stub.Goals as goal
 
-pub loop-i-init : goal.loop-i-init
-loop-i-init c = refl
+pub returns-then-last-ge128 : goal.returns-then-last-ge128
+returns-then-last-ge128 c =
+    let front = c.in-Some.front.now in
+    let last = c.in-Some.last.now in
+    let e : c.args.bytes.now ≡ front ++ (last ∷ []) = c.in-Some.ensures.cases.0 in
+    rw e
+    (all_from_yields_List low _ _ _ c.all.ensures.ran (YieldsList-from_slice front cc) (λ x b q k. search (rules, tests))
+    ∙ stub_high front last c.if-last-ge128.true)
 
-pub returns-then-bytes-i-ge128 : goal.returns-then-bytes-i-ge128
-returns-then-bytes-i-ge128 c = stub_first c.args.bytes.now c.loop-i.i (search rules) _ c.if-bytes-i-ge128.true refl ∙ c.loop-i.invariant
+pub returns-else-last-ge128 : goal.returns-else-last-ge128
+returns-else-last-ge128 c =
+    let front = c.in-Some.front.now in
+    let last = c.in-Some.last.now in
+    let e : c.args.bytes.now ≡ front ++ (last ∷ []) = c.in-Some.ensures.cases.0 in
+    rw (e, lt-leb 128 last c.if-last-ge128.false)
+    (stub_low front last c.if-last-ge128.false)
 
-pub loop-i-preserved : goal.loop-i-preserved
-loop-i-preserved c = stub_low c.args.bytes.now c.loop-i.i (search rules) (omega arith) ∙ c.loop-i.invariant
-
-pub returns : goal.returns
-returns c = stub_none c.args.bytes.now c.loop-i.i (search rules) ∙ c.loop-i.invariant
+pub returns-in-None : goal.returns-in-None
+returns-in-None c = stub_none c.args.bytes.now c.in-None.ensures.cases

@@ -1,14 +1,9 @@
 use mathlib.Core.Path.{sym, ◌∙◌}
+use Rattle.paper.proofs.Same.{bytes_same}
 use Rattle.stream.proofs.walk.keep_first.Goals as goal
 
-pub returns-then-same : goal.returns-then-same
-returns-then-same c = rw (c.in-Missing.is, sym c.same.ensures ∙ c.if-same.true)
+pub returns-in-None : goal.returns-in-None
+returns-in-None c = rw (c.in-None.is, sym (bytes_same c.args.own.now c.args.label.now) ∙ sym c.eq.ensures ∙ c.if-eq.true)
 
-pub returns-in-At : goal.returns-in-At
-returns-in-At c = rw c.in-At.is
-
-pub returns-in-Malformed : goal.returns-in-Malformed
-returns-in-Malformed c = rw c.in-Malformed.is
-
-pub returns-else-same : goal.returns-else-same
-returns-else-same c = rw (c.in-Missing.is, sym c.same.ensures ∙ c.if-same.false)
+pub returns-in_default : goal.returns-in_default
+returns-in_default c = rw (c.in-None.is, sym (bytes_same c.args.own.now c.args.label.now) ∙ sym c.eq.ensures ∙ c.if-eq.false)

@@ -1,19 +1,25 @@
-use mathlib.Core.Path.{◌∙◌}
+use mathlib.Core.Path.{sym, ◌∙◌}
 use native.Mathlib.Omega.{arith}
-use Rattle.stream.proofs.Framing.{no_record, too_short, too_long, in_kind}
+use Rattle.stream.proofs.Strings.{stops}
+use Rattle.stream.proofs.Framing.{no_record, no_length, too_short, in_kind}
 use Rattle.stream.proofs.walk.record_at.Goals as goal
 
 pub returns-then-bytes-at : goal.returns-then-bytes-at
 returns-then-bytes-at c = no_record _ _ (omega arith)
 
-pub returns-then-rest-lt4 : goal.returns-then-rest-lt4
-returns-then-rest-lt4 c = no_record _ _ (omega arith)
+pub returns-in_err-after : goal.returns-in_err-after
+returns-in_err-after c = c.from_residual.ensures ∙ no_length _ _ (sym c.string_stop.ensures ∙ c.in_err-after.was)
 
-pub returns-then-length-lt2 : goal.returns-then-length-lt2
-returns-then-length-lt2 c = too_short _ _ (omega arith) _ c.u32_at-length.ensures.1 c.if-length-lt2.true
+pub returns-then-after-at : goal.returns-then-after-at
+returns-then-after-at c = too_short _ _ (sym c.string_stop.ensures ∙ c.in_ok-after.was) c.if-after-at.true
 
-pub returns-then-rest-length : goal.returns-then-rest-length
-returns-then-rest-length c = too_long _ _ (omega arith) _ c.u32_at-length.ensures.1 (omega arith) (omega arith)
+pub u16_at-kind-requires : goal.u16_at-kind-requires
+u16_at-kind-requires c = let s = stops _ _ _ _ (sym c.string_stop.ensures ∙ c.in_ok-after.was) in omega arith
+
+pub label_in-requires : goal.label_in-requires
+label_in-requires c = let s = stops _ _ _ _ (sym c.string_stop.ensures ∙ c.in_ok-after.was) in (omega arith, s.within)
 
 pub returns : goal.returns
-returns c = c.label_in.ensures ∙ in_kind _ _ (omega arith) _ c.u32_at-length.ensures.1 (omega arith) _ c.u16_at-kind.ensures.1 (omega arith)
+returns c =
+    c.label_in.ensures
+    ∙ in_kind _ _ (sym c.string_stop.ensures ∙ c.in_ok-after.was) c.if-after-at.false _ c.u16_at-kind.ensures.1

@@ -1,13 +1,13 @@
-use mathlib.Core.Path.{◌∙◌}
-use native.Mathlib.Omega.{arith}
-use Rattle.stream.proofs.Stubs.{after_short, after_over, after_string}
+use mathlib.Core.Path.{sym, ◌∙◌}
+use Rattle.stream.proofs.Strings.{stops}
+use Rattle.stream.proofs.Stubs.{after_none, after_string}
 use Rattle.stream.proofs.walk.stub_after.Goals as goal
 
-pub returns-then-end-from-lt4 : goal.returns-then-end-from-lt4
-returns-then-end-from-lt4 c = after_short c.args.bytes.now c.args.from c.args.end (omega arith)
+pub stub_at-requires : goal.stub_at-requires
+stub_at-requires c = ((stops _ _ _ _ (sym c.string_stop.ensures ∙ c.in-Some.is)).within, c.requires.1)
 
-pub returns-then-end-from : goal.returns-then-end-from
-returns-then-end-from c = after_over c.args.bytes.now c.args.from c.args.end (omega arith) _ c.u32_at-length.ensures.1 (omega arith)
+pub returns-in-Some : goal.returns-in-Some
+returns-in-Some c = c.stub_at.ensures ∙ after_string _ _ _ (sym c.string_stop.ensures ∙ c.in-Some.is)
 
-pub returns : goal.returns
-returns c = c.stub_at.ensures ∙ after_string c.args.bytes.now c.args.from c.args.end (omega arith) _ c.u32_at-length.ensures.1 (omega arith)
+pub returns-in-None : goal.returns-in-None
+returns-in-None c = after_none _ _ _ (sym c.string_stop.ensures ∙ c.in-None.is)

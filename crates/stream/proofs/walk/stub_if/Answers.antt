@@ -1,9 +1,10 @@
 use mathlib.Core.Path.{◌∙◌}
+use borrow.Author.Tests.{ne_eqb}
 use Rattle.stream.proofs.Stubs.{if_old, if_other}
 use Rattle.stream.proofs.walk.stub_if.Goals as goal
 
-pub returns-then-kind-eq1 : goal.returns-then-kind-eq1
-returns-then-kind-eq1 c = c.stub_after.ensures ∙ if_old _ _ _ _ c.if-kind-eq1.true
+pub returns-then-kind-ne1 : goal.returns-then-kind-ne1
+returns-then-kind-ne1 c = rw (ne_eqb _ _ c.if-kind-ne1.true) (if_other _ _ _ _ c.if-kind-ne1.true)
 
-pub returns : goal.returns
-returns c = if_other _ _ _ _ c.if-kind-eq1.false
+pub returns-else-kind-ne1 : goal.returns-else-kind-ne1
+returns-else-kind-ne1 c = c.stub_after.ensures ∙ if_old _ _ _ _ c.if-kind-ne1.false

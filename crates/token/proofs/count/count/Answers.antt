@@ -1,8 +1,8 @@
 use Rattle.token.proofs.Counts.{all_good, one_bad}
 use Rattle.token.proofs.count.count.Goals as goal
 
-pub returns-then-t-eq0 : goal.returns-then-t-eq0
-returns-then-t-eq0 c = all_good _ _ c.tally_all-t.ensures c.if-t-eq0.true
+pub returns-then-bads-eq0 : goal.returns-then-bads-eq0
+returns-then-bads-eq0 c = all_good _ _ c.tally_all-tokens.ensures c.if-bads-eq0.true
 
-pub returns : goal.returns
-returns c = one_bad _ _ c.tally_all-t.ensures _ c.first_bad.ensures
+pub returns-else-bads-eq0 : goal.returns-else-bads-eq0
+returns-else-bads-eq0 c = one_bad _ _ c.tally_all-tokens.ensures _ c.first_bad-bad.ensures

@@ -1,15 +1,18 @@
-use mathlib.Core.Path.{sym, ap, ◌∙◌}
-use Rattle.token.specs.Count.{bad_of}
-use Rattle.token.proofs.Classes.{is_bad, not_bad}
-use Rattle.token.proofs.Counts.{bad_end, bad_here, bad_step}
+use mathlib.Core.Path.{◌∙◌}
+use Prim.Native.Nat.{ℕ}
+use lib.Dec.{eqb}
+use Rattle.std.proofs.Common.{tests}
+use Rattle.std.proofs.lemmas.Iterator.{YieldsList-from_slice}
+use Rattle.std.proofs.lemmas.Iterator.Search.{position_from_yields_List}
+use Rattle.std.proofs.lemmas.Iterator.Adapters.{position_from-zero}
+use Rattle.token.specs.Class.{class}
+use Rattle.token.proofs.Counts.{bad_position}
 use borrow.Author.Rules.{rules}
 use Rattle.token.proofs.count.first_bad.Goals as goal
 
-pub returns-then-class_of-eq0 : goal.returns-then-class_of-eq0
-returns-then-class_of-eq0 c = ap bad_of (sym (bad_here _ c.loop-i.i (search rules) (is_bad _ c.class_of.ensures c.if-class_of-eq0.true)) ∙ c.loop-i.invariant)
-
-pub loop-i-preserved : goal.loop-i-preserved
-loop-i-preserved c = bad_step _ c.loop-i.i (search rules) (not_bad _ c.class_of.ensures c.if-class_of-eq0.false) ∙ c.loop-i.invariant
-
 pub returns : goal.returns
-returns c = ap bad_of (sym (bad_end _ c.loop-i.i (search rules)) ∙ c.loop-i.invariant)
+returns c =
+    let t = c.args.text.now in
+    position_from_yields_List
+    (λ (b : ℕ). eqb (class b) 0) _ _ _ c.position.ensures.ran (YieldsList-from_slice t cc) (λ x b q k. search (rules, tests))
+    ∙ position_from-zero _ t ∙ bad_position t 0

@@ -1,9 +1,5 @@
-use Prim.Native.Nat.{◌-◌}
 use Rattle.unify.proofs.Pushes.{Copying}
 use Rattle.unify.proofs.expand.copy_part.Given as goal
 
 abbrev pub invariant-loop-i : goal.invariant-loop-i
 invariant-loop-i l = Copying l.initial.stack l.stack l.top l.s l.p l.i l.q
-
-abbrev pub decreases-loop-i : goal.decreases-loop-i
-decreases-loop-i l = l.top - l.i

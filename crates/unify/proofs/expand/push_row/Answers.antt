@@ -1,13 +1,8 @@
-use Rattle.unify.proofs.Pushes.{push_as, entry_full, entry_then}
+use Rattle.unify.proofs.Pushes.{entry_full, entry_then}
 use Rattle.unify.proofs.expand.push_row.Goals as goal
 
-pub returns-in_default : goal.returns-in_default
-returns-in_default c = let a = c.args in
-    entry_full a.typecode.0 a.tokens.now (push_as c.in_default.is c.put_word.ensures)
-
-pub put_tokens-requires : goal.put_tokens-requires
-put_tokens-requires c = (push_as c.in-Upto.is c.put_word.ensures).done.within
+pub returns-in_err-p : goal.returns-in_err-p
+returns-in_err-p c = rw c.from_residual.ensures (entry_full c.args.typecode.0 c.args.tokens.now c.in_err-p.ensures)
 
 pub returns : goal.returns
-returns c = let a = c.args in
-    entry_then a.typecode.0 a.tokens.now _ (push_as c.in-Upto.is c.put_word.ensures) c.put_tokens.ensures
+returns c = entry_then c.args.typecode.0 c.args.tokens.now _ c.in_ok-p.ensures c.put_tokens.ensures

@@ -1,22 +1,15 @@
 use native.Mathlib.Omega.{arith}
-use Rattle.unify.proofs.Matches.{match_none, match_as, spread_none, tokens_more, tokens_differ, tokens_end}
+use Rattle.unify.proofs.Matches.{match_none, spread_none, tokens_more, tokens_differ}
 use Rattle.unify.proofs.matching.match_tokens.Goals as goal
 
-pub loop-i-init : goal.loop-i-init
-loop-i-init c = let a = c.args in
-    (omega arith, rw (spread_none a.work.now a.n a.stack.now) (match_none a.stack.now a.p))
+pub loop-t-init : goal.loop-t-init
+loop-t-init c = let a = c.args in rw (spread_none a.work.now a.n a.stack.now) (match_none a.stack.now a.p)
 
-pub match_token-requires : goal.match_token-requires
-match_token-requires c = (c.requires.0, c.requires.1.atom c.loop-i.i (omega arith))
+pub returns-in_err-q : goal.returns-in_err-q
+returns-in_err-q c = let a = c.args in
+    rw c.from_residual.ensures
+    (tokens_differ a.work.now a.n a.stack.now a.tokens.now c.loop-t.t-index c.loop-t.invariant (omega arith) c.in_err-q.ensures)
 
-pub returns-in_default : goal.returns-in_default
-returns-in_default c = let a = c.args in
-    tokens_differ a.work.now a.n a.stack.now a.tokens.now c.loop-i.i c.loop-i.invariant.1 (omega arith) (match_as c.in_default.is c.match_token.ensures)
-
-pub loop-i-preserved : goal.loop-i-preserved
-loop-i-preserved c = let a = c.args in
-    (omega arith, tokens_more a.work.now a.n a.stack.now a.tokens.now c.loop-i.i c.loop-i.invariant.1 _ (omega arith) (match_as c.in-Upto.is c.match_token.ensures))
-
-pub returns : goal.returns
-returns c = let a = c.args in
-    tokens_end a.work.now a.n a.stack.now a.tokens.now c.loop-i.i c.loop-i.invariant.1 (omega arith)
+pub loop-t-preserved : goal.loop-t-preserved
+loop-t-preserved c = let a = c.args in
+    tokens_more a.work.now a.n a.stack.now a.tokens.now c.loop-t.t-index c.loop-t.invariant _ (omega arith) c.in_ok-q.ensures

@@ -1,12 +1,8 @@
-use Prim.Native.Nat.{◌-◌, ◌≤◌}
-use lib.ListN.{length, take}
+use lib.ListN.{take}
+use Rattle.std.specs.Prelude.{Some}
 use Rattle.unify.specs.Bound.{spread}
 use Rattle.unify.specs.Matches.{Matches}
-use Rattle.unify.specs.declared.Matched.TheVariants.{Upto}
 use Rattle.unify.proofs.matching.match_tokens.Given as goal
 
-abbrev pub invariant-loop-i : goal.invariant-loop-i
-invariant-loop-i l = (l.i ≤ length l.tokens) × Matches (spread l.work l.n l.stack (take l.i l.tokens)) l.stack l.p (Upto l.q)
-
-abbrev pub decreases-loop-i : goal.decreases-loop-i
-decreases-loop-i l = length l.tokens - l.i
+abbrev pub invariant-loop-t : goal.invariant-loop-t
+invariant-loop-t l = Matches (spread l.work l.n l.stack (take l.t-index l.tokens)) l.stack l.p (Some l.q)

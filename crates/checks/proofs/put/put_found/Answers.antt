@@ -1,0 +1,5 @@
+use Rattle.checks.proofs.Told.{silent}
+use Rattle.checks.proofs.put.put_found.Goals as goal
+
+pub returns-in-None : goal.returns-in-None
+returns-in-None c = silent (rw c.in-None.is)
