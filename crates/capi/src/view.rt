@@ -11,10 +11,7 @@ use stream::walk::label_place;
 fn told(asked: Option<usize>) -> u64
     ensures { result ≡ told asked }
 {
-    match asked {
-        Some(n) => n as u64,
-        None => u64::MAX,
-    }
+    asked.map_or(u64::MAX, |n| n as u64)
 }
 
 /// 0, or number 10 for a record that is not well framed.

@@ -13,7 +13,9 @@ use Rattle.paper.specs.Statements.{Statement}
 use Rattle.paper.specs.Reader.{given}
 use Rattle.paper.specs.Give.{Given, all_given}
 use Rattle.paper.specs.Records.{frame_stream, diag_stream}
-use Rattle.paper.specs.Answer.{done, not_done, crowded, frames_in, streams, measured, written, answer_of}
+use Rattle.paper.specs.declared.Refused.{Refused}
+use Rattle.paper.specs.declared.Lengths as paper
+use Rattle.paper.specs.Answer.{Answer, done, not_done, crowded, frames_in, streams, measured, written, answer_of}
 use Rattle.paper.specs.declared.Setting.{Setting}
 use Rattle.paper.specs.declared.StatementOffset.{StatementOffset}
 use Rattle.paper.specs.declared.Refusal.TheVariants.{ManyVariables, ShortFrames, ShortDiags}
@@ -26,17 +28,23 @@ use Rattle.fold.specs.Start.{Held, Read, Starts}
 use Rattle.catalogue.specs.Streams.{Sized, sized, crowd, Sizes, Needed, Gives, Answered}
 
 -- ---- a fold that writes nothing
-sized_by : {c : Setting} {b b' o o' : List ℕ} {g : List Given} {r : Result Streams StatementOffset} → Streamed c b b' o o' g r → Sized c g r
-sized_by {c} {g = g} (fold.streams {f} {d} e x y n) =
+sized_ok : {c : Setting} {b b' o o' : List ℕ} {g : List Given} {s : Streams} → Streamed c b b' o o' g (Ok s) → Sized c g (done s.frames s.diags s.count)
+sized_ok {c} {g = g} (fold.streams {f} {d} e x y n) =
     let p : f ≡ length (frame_stream c g) = omega (arith, x.place) in
     let q : d ≡ length (diag_stream g) = omega (arith, y.place) in
     sized e p q n
-sized_by (fold.crowd x e) = crowd x e
 
-pub sizes_of : {c : Setting} {t w v b b' o o' : List ℕ} {n rows names : ℕ} {r : Result Streams StatementOffset} → FoldsAll c t w v b b' o o' n rows names r → Sizes c t w v n rows names r
-sizes_of z = record { sim = λ a. let x = z.sim a in (x.0, sized_by x.1) }
+sized_err : {c : Setting} {b b' o o' : List ℕ} {g : List Given} {s : StatementOffset} → Streamed c b b' o o' g (Err s) → Sized c g (not_done (ManyVariables s.0) 0)
+sized_err (fold.crowd x e) = crowd x e
 
-pub whole_again : {c : Setting} {t w v u : List ℕ} {rows : ℕ} {s : Started} {r : Result Streams StatementOffset}
+module _ {c : Setting} {t w v b b' o o' : List ℕ} {n rows names : ℕ} where
+  pub sizes_ok : {s : Streams} → FoldsAll c t w v b b' o o' n rows names (Ok s) → Sizes c t w v n rows names (done s.frames s.diags s.count)
+  sizes_ok z = record { sim = λ a. let x = z.sim a in (x.0, sized_ok x.1) }
+
+  pub sizes_err : {s : StatementOffset} → FoldsAll c t w v b b' o o' n rows names (Err s) → Sizes c t w v n rows names (not_done (ManyVariables s.0) 0)
+  sizes_err z = record { sim = λ a. let x = z.sim a in (x.0, sized_err x.1) }
+
+pub whole_again : {c : Setting} {t w v u : List ℕ} {rows : ℕ} {s : Started} {r : Answer}
     → Starts t w v rows s → Sizes c t v u s.n rows s.names r → Read t w rows → SomeWhole t u s.n rows s.names
 whole_again a z x = record { of = x.of; holds = (z.sim (a.sim x.holds)).0 }
 
@@ -47,20 +55,17 @@ record Lengths (e : Setting) (g : List Given) (p q c : ℕ) : Type 0 where
   diags : q ≡ length (diag_stream g)
   count : c ≡ length (frames_in g)
 
-by_sizes : {e : Setting} {g : List Given} {p q c : ℕ} → Sized e g (Ok (record { frames = p; diags = q; count = c })) → Lengths e g p q c
+by_sizes : {e : Setting} {g : List Given} {s : paper.Lengths} → Sized e g (Ok s) → Lengths e g s.frames s.diags s.count
 by_sizes (sized e x y n) = record { few = e; frames = x; diags = y; count = n }
 
 -- ---- the measure: numbers 7 and 0
-needs_many : {c : Setting} (t : List ℕ) (g : List Given) {s : StatementOffset} → Sized c g (Err s) → not_done (ManyVariables s.0) 0 ≡ answer_of t (measured c g)
+needs_by : {c : Setting} (t : List ℕ) (g : List Given) {r : Answer} → Sized c g r → r ≡ answer_of t (measured c g)
 unfolding measured
-needs_many t g (crowd x e) = rw e
-
-needs_done : {e : Setting} (t : List ℕ) (g : List Given) {p q c : ℕ} → Lengths e g p q c → done p q c ≡ answer_of t (measured e g)
-unfolding measured
-needs_done t g s = rw (s.few, s.frames, s.diags, s.count)
+needs_by t g (sized e x y n) = rw (e, x, y, n)
+needs_by t g (crowd x e) = rw e
 
 -- ---- the writer: number 7
-gives_many : {c : Setting} {t : List ℕ} (g : List Given) {f d : List ℕ} {s : StatementOffset} → Sized c g (Err s) → Gives c t g f f d d (not_done (ManyVariables s.0) 0)
+gives_many : {c : Setting} {t : List ℕ} (g : List Given) {f d : List ℕ} {r : Refused} → Sized c g (Err r) → Gives c t g f f d d (Err r)
 unfolding written
 gives_many g (crowd x e) = record { answer = rw e; frames = rw e; diags = rw e }
 
@@ -93,26 +98,22 @@ gives_done {c} {t} g {f} {d = d} s h k (fold.streams e x y n) =
 
 -- ---- the answers
 module _ {e : Setting} {t w v u : List ℕ} {rows : ℕ} {s : Started} (a : Starts t w v rows s) where
-  module _ {o : StatementOffset} (z : Sizes e t v u s.n rows s.names (Err o)) where
-    pub needs_refused : Needed e t w rows (not_done (ManyVariables o.0) 0)
-    needs_refused = record { sim = λ {l} h. needs_many t (all_given l) (z.sim (a.sim h)).1 }
+  pub needs : {r : Answer} → Sizes e t v u s.n rows s.names r → Needed e t w rows r
+  needs z = record { sim = λ {l} h. needs_by t (all_given l) (z.sim (a.sim h)).1 }
 
-    pub many : {f d : List ℕ} → Answered e t w rows f f d d (not_done (ManyVariables o.0) 0)
-    many = record { sim = λ {l} h. gives_many (all_given l) (z.sim (a.sim h)).1 }
+  pub many : {r : Refused} {f d : List ℕ} → Sizes e t v u s.n rows s.names (Err r) → Answered e t w rows f f d d (Err r)
+  many z = record { sim = λ {l} h. gives_many (all_given l) (z.sim (a.sim h)).1 }
 
-  module _ {p q c : ℕ} (z : Sizes e t v u s.n rows s.names (Ok (record { frames = p; diags = q; count = c }))) where
-    lengths_of : {l : List Statement} → Held t w rows l → Lengths e (all_given l) p q c
+  module _ {x : paper.Lengths} (z : Sizes e t v u s.n rows s.names (Ok x)) where
+    lengths_of : {l : List Statement} → Held t w rows l → Lengths e (all_given l) x.frames x.diags x.count
     lengths_of h = by_sizes (z.sim (a.sim h)).1
 
-    pub needs_given : Needed e t w rows (done p q c)
-    needs_given = record { sim = λ {l} h. needs_done t (all_given l) (lengths_of h) }
+    pub short_frames : {f d : List ℕ} → length f < x.frames → Answered e t w rows f f d d (not_done (ShortFrames x.frames) 0)
+    short_frames h = record { sim = λ {l} y. gives_short_frames (all_given l) (lengths_of y) h }
 
-    pub short_frames : {f d : List ℕ} → length f < p → Answered e t w rows f f d d (not_done (ShortFrames p) 0)
-    short_frames h = record { sim = λ {l} x. gives_short_frames (all_given l) (lengths_of x) h }
+    pub short_diags : {f d : List ℕ} → x.frames ≤ length f → length d < x.diags → Answered e t w rows f f d d (not_done (ShortDiags x.diags) 0)
+    short_diags h k = record { sim = λ {l} y. gives_short_diags (all_given l) (lengths_of y) h k }
 
-    pub short_diags : {f d : List ℕ} → p ≤ length f → length d < q → Answered e t w rows f f d d (not_done (ShortDiags q) 0)
-    short_diags h k = record { sim = λ {l} x. gives_short_diags (all_given l) (lengths_of x) h k }
-
-    pub all_done : {f f' d d' x : List ℕ} {r : Result Streams StatementOffset} → p ≤ length f → q ≤ length d → FoldsAll e t u x f f' d d' s.n rows s.names r
-        → Answered e t w rows f f' d d' (done p q c)
+    pub all_done : {f f' d d' y : List ℕ} {r : Result Streams StatementOffset} → x.frames ≤ length f → x.diags ≤ length d → FoldsAll e t u y f f' d d' s.n rows s.names r
+        → Answered e t w rows f f' d d' (Ok x)
     all_done h k y = record { sim = λ {l} i. gives_done (all_given l) (lengths_of i) h k (y.sim (z.sim (a.sim i)).0).1 }

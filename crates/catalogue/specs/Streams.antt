@@ -1,29 +1,28 @@
 -- A text that is read: answers and buffers are those of what its statements give.
 -- `c` is the setting; `f` and `d` are the buffers at entry, `f'` and `d'` at exit.
-use Rattle.std.specs.Prelude.{◌≡◌, Result, Ok, Err, List, ℕ, length}
+use Rattle.std.specs.Prelude.{◌≡◌, List, ℕ, length}
 use Rattle.std.proofs.Math.Option.{none, some}
 use Rattle.paper.specs.Base.{find}
 use Rattle.paper.specs.Statements.{Statement}
 use Rattle.paper.specs.Frames.{Frame}
 use Rattle.paper.specs.Give.{Given, all_given}
 use Rattle.paper.specs.Records.{frame_stream, diag_stream}
-use Rattle.paper.specs.Answer.{Answer, crowded, frame_at, frames_in, measured, written, answer_of, frames_of, diags_of}
+use Rattle.paper.specs.Answer.{Answer, done, not_done, crowded, frame_at, frames_in, measured, written, answer_of, frames_of, diags_of}
 use Rattle.paper.specs.declared.Setting.{Setting}
-use Rattle.paper.specs.declared.StatementOffset.{StatementOffset}
-use Rattle.fold.specs.declared.all.Streams.{Streams}
+use Rattle.paper.specs.declared.Refusal.TheVariants.{ManyVariables}
 use Rattle.fold.specs.Fold.{Whole}
 use Rattle.fold.specs.Start.{Held}
 
 -- ---- a fold that writes nothing
 -- the lengths of both streams and the number of frames; or the first frame with over 4,095 variables
-pub data Sized (c : Setting) (g : List Given) : Result Streams StatementOffset → Type 0 where
+pub data Sized (c : Setting) (g : List Given) : Answer → Type 0 where
   sized : {p q n : ℕ}
       → find crowded (frames_in g) ≡ none → p ≡ length (frame_stream c g) → q ≡ length (diag_stream g) → n ≡ length (frames_in g)
-      → Sized c g (Ok (record { frames = p; diags = q; count = n }))
-  crowd : (x : Frame) → find crowded (frames_in g) ≡ some x → Sized c g (Err (record { 0 = frame_at x }))
+      → Sized c g (done p q n)
+  crowd : (x : Frame) → find crowded (frames_in g) ≡ some x → Sized c g (not_done (ManyVariables (frame_at x)) 0)
 
 -- the words v after it can be folded again
-pub record Sizes (c : Setting) (t w v : List ℕ) (n rows names : ℕ) (r : Result Streams StatementOffset) : Type 0 where
+pub record Sizes (c : Setting) (t w v : List ℕ) (n rows names : ℕ) (r : Answer) : Type 0 where
   pub sim : {l : List Statement} → Whole t w n rows names l → Whole t v n rows names l × Sized c (all_given l) r
 
 -- ---- the measure

@@ -1,31 +1,14 @@
 // A text that is read: both streams are measured by a fold that writes nothing, and written only if both fit.
 // Numbers 7, 8 and 9, in this order.
 ghost use Rattle.std.specs.Prelude.{◌≡◌};
-ghost use Rattle.paper.specs.Answer.{done, not_done};
+ghost use Rattle.paper.specs.Answer.{not_done};
 ghost use Rattle.fold.specs.Fold.{SomeWhole};
 ghost use Rattle.fold.specs.Start.{Read};
 ghost use Rattle.catalogue.specs.Streams.{Sizes, Needed, Answered};
 
-use fold::all::{Streams, fold_all};
+use fold::all::fold_all;
 use fold::start::start;
-use paper::{Answer, Lengths, Refusal, Refused, Setting, StatementOffset};
-
-/// The lengths of both streams and the number of frames, or the first assertion with too many variables.
-fn sizes(
-    text: &[u8],
-    work: &mut [u32],
-    n: usize,
-    rows: usize,
-    names: usize,
-    setting: Setting,
-) -> Result<Streams, StatementOffset>
-    requires { SomeWhole text.now work.old n rows names }
-    ensures { Sizes setting text.now work.old work.new n rows names result }
-{
-    let mut frames = [0u8; 0];
-    let mut diags = [0u8; 0];
-    fold_all(text, work, n, &mut frames, &mut diags, rows, names, setting)
-}
+use paper::{Answer, Lengths, Refusal, Refused, Setting};
 
 /// A refusal by number 7, 8 or 9: its line is 0.
 fn refused(refusal: Refusal) -> Answer
@@ -34,15 +17,28 @@ fn refused(refusal: Refusal) -> Answer
     Err(Refused { refusal, line: 0 })
 }
 
-/// What is answered where nothing is refused.
-fn told(s: Streams) -> Answer
-    ensures { result ≡ done s.frames s.diags s.count }
+/// The lengths of both streams and the number of frames, or number 7.
+fn sizes(
+    text: &[u8],
+    work: &mut [u32],
+    n: usize,
+    rows: usize,
+    names: usize,
+    setting: Setting,
+) -> Answer
+    requires { SomeWhole text.now work.old n rows names }
+    ensures { Sizes setting text.now work.old work.new n rows names result }
 {
-    Ok(Lengths {
-        frames: s.frames as u64,
-        diags: s.diags as u64,
-        count: s.count as u64,
-    })
+    let mut frames = [0u8; 0];
+    let mut diags = [0u8; 0];
+    match fold_all(text, work, n, &mut frames, &mut diags, rows, names, setting) {
+        Ok(s) => Ok(Lengths {
+            frames: s.frames as u64,
+            diags: s.diags as u64,
+            count: s.count as u64,
+        }),
+        Err(s) => refused(Refusal::ManyVariables(s.0 as u64)),
+    }
 }
 
 /// What the measure answers for a text of so many statements.
@@ -51,10 +47,7 @@ pub(crate) fn measure_read(text: &[u8], work: &mut [u32], rows: usize, setting: 
     ensures { Needed setting text.now work.old rows result }
 {
     let at = start(text, work, rows);
-    match sizes(text, work, at.n, rows, at.names, setting) {
-        Err(s) => refused(Refusal::ManyVariables(s.0 as u64)),
-        Ok(s) => told(s),
-    }
+    sizes(text, work, at.n, rows, at.names, setting)
 }
 
 /// What the writer answers for a text of so many statements.
@@ -70,17 +63,13 @@ pub(crate) fn answer_read(
     ensures { Answered setting text.now work.old rows frames.old frames.new diags.old diags.new result }
 {
     let at = start(text, work, rows);
-    match sizes(text, work, at.n, rows, at.names, setting) {
-        Err(s) => refused(Refusal::ManyVariables(s.0 as u64)),
-        Ok(s) => {
-            if frames.len() < s.frames {
-                return refused(Refusal::ShortFrames(s.frames as u64));
-            }
-            if diags.len() < s.diags {
-                return refused(Refusal::ShortDiags(s.diags as u64));
-            }
-            let _ = fold_all(text, work, at.n, frames, diags, rows, at.names, setting);
-            told(s)
-        }
+    let needs = sizes(text, work, at.n, rows, at.names, setting)?;
+    if (frames.len() as u64) < needs.frames {
+        return refused(Refusal::ShortFrames(needs.frames));
     }
+    if (diags.len() as u64) < needs.diags {
+        return refused(Refusal::ShortDiags(needs.diags));
+    }
+    let _ = fold_all(text, work, at.n, frames, diags, rows, at.names, setting);
+    Ok(needs)
 }

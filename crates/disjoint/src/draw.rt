@@ -36,10 +36,7 @@ impl Grid {
     {
         let i = x.0 as usize;
         let j = y.0 as usize;
-        if self.size <= i {
-            return at;
-        }
-        if self.size <= j {
+        if self.size <= i || self.size <= j {
             return at;
         }
         let line = self.row(i);
@@ -48,10 +45,7 @@ impl Grid {
         }
         stream::bits::set_bit(buf, line, j);
         stream::bits::set_bit(buf, self.row(j), i);
-        if self.mandatory <= i {
-            return at;
-        }
-        if self.mandatory <= j {
+        if self.mandatory <= i || self.mandatory <= j {
             return at;
         }
         let a = stream::write::put_u16(buf, at, i as u64);

@@ -39,13 +39,7 @@ pub fn mark_one(work: &mut [u32], n: usize, m: usize, t: TokenRow, u: VariableNu
     let v = u.0 as usize;
     let atom = cells::of_math(work, n, t.0 as usize) as usize;
     let k = cells::of_symbol(work, n, atom, area::NUMBER) as usize;
-    if k <= v + 1 {
-        return false;
-    }
-    if m < k {
-        return false;
-    }
-    if cells::of_symbol(work, n, atom, area::MARK) as usize == v + 1 {
+    if k <= v + 1 || m < k || cells::of_symbol(work, n, atom, area::MARK) as usize == v + 1 {
         return false;
     }
     cells::put_symbol(work, n, atom, area::MARK, (v + 1) as u32);

@@ -1,7 +1,7 @@
 -- The frame of one statement: nothing for what is rejected or has none, a stub for a `$f`, the full frame for an assertion.
 -- By the words for its kind and whether it is accepted.
 use mathlib.Core.Path.{◌≡◌, refl, sym, ap, ◌∙◌}
-use mathlib.Core.Logic.{◌≢◌}
+use mathlib.Core.Logic.{◌≢◌, ◌⊎◌, inl, inr}
 use mathlib.Core.Bool.{true, false}
 use mathlib.Core.List.{List, [], ◌∷◌, append-nil}
 use Prim.Native.Nat.{ℕ, ◌+◌, ◌*◌, ◌<◌, ◌≤◌}
@@ -19,6 +19,9 @@ use Rattle.paper.proofs.Tests.{split}
 use Rattle.area.specs.Cells.{statement_cell, word}
 use Rattle.stream.specs.Wrote.{Wrote}
 use Rattle.stream.proofs.Wrote.{wrote_none, wrote_as}
+use Rattle.reader.specs.Kinds.{number_of}
+use Rattle.reader.specs.declared.kind.Kind as code
+use Rattle.reader.specs.declared.kind.Kind.TheVariants as kind
 use Rattle.reader.specs.Rows.{kind_number, stmt}
 use Rattle.facts.specs.States.{given_at}
 use Rattle.sight.specs.Static.{stack}
@@ -74,6 +77,20 @@ no_assertion $f h g = refl
 no_assertion $e h g = refl
 no_assertion $a h g = absurd (omega arith)
 no_assertion $p h g = absurd (omega arith)
+
+-- the word of a row, by the code's kind
+pub framed_word : {q : code.Kind} {x : ℕ} → (q ≡ kind.A) ⊎ (q ≡ kind.P) → number_of q ≡ x → 6 ≤ x
+framed_word (inl e) h = let g = rw e at h in omega (arith, g)
+framed_word (inr e) h = let g = rw e at h in omega (arith, g)
+
+pub other_word : (q : code.Kind) {x : ℕ} → q ≢ kind.F → q ≢ kind.A → q ≢ kind.P → number_of q ≡ x → (x ≢ 4) × (x < 6)
+other_word kind.C f a p h = (λ e. omega (arith, h, e), omega (arith, h))
+other_word kind.V f a p h = (λ e. omega (arith, h, e), omega (arith, h))
+other_word kind.D f a p h = (λ e. omega (arith, h, e), omega (arith, h))
+other_word kind.F f a p h = absurd (f refl)
+other_word kind.E f a p h = (λ e. omega (arith, h, e), omega (arith, h))
+other_word kind.A f a p h = absurd (a refl)
+other_word kind.P f a p h = absurd (p refl)
 
 module _ {t w : List ℕ} {n : ℕ} {l : List Statement} {st : Scope} {k : ℕ} (b : Turn t w n l st k) where
   kind_word : word w (statement_cell k 0) ≡ kind_number (stmt l k).kind

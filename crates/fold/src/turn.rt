@@ -6,7 +6,9 @@ ghost use Rattle.fold.specs.Turn.{SomeTurn, Turned};
 use frames::assert::construct_full_frame;
 use frames::stub::construct_stub_frame;
 use paper::{Setting, StatementRow};
+use reader::kind::Kind;
 use scopeck::Scope;
+use scopeck::rows::kind_of;
 use slots::cells::of_statement;
 
 /// Stores the frame of the statement in a row, if it has one: the place after it, or none for too many variables.
@@ -27,9 +29,11 @@ pub fn frame_statement(
     if of_statement(work, n, line, area::ACCEPTED) == 0 {
         return Some(at);
     }
-    match of_statement(work, n, line, area::KIND) {
-        4 => Some(construct_stub_frame(text, work, n, frames, at, row)),
-        6 | 7 => construct_full_frame(text, work, n, frames, at, row, st.es, st.ds, setting),
+    match kind_of(work, n, line) {
+        Kind::F => Some(construct_stub_frame(text, work, n, frames, at, row)),
+        Kind::A | Kind::P => {
+            construct_full_frame(text, work, n, frames, at, row, st.es, st.ds, setting)
+        }
         _ => Some(at),
     }
 }

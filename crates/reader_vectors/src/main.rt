@@ -3,12 +3,11 @@
 // work area, and the text; what a case leaves in the work area is there when the next begins. `make.py` wrote it, and `stdout`.
 #![tactic(auto)]
 
-ghost use Rattle.std.specs.Prelude.{◌≤◌, ◌<◌, length};
+ghost use Rattle.std.specs.Prelude.{◌<◌, length};
 
 use paper::{Refused, Statements};
 use std::fs::File;
 use std::os::fd::AsRawFd;
-use stream::walk::u16_at;
 
 fn write_two(a: u64, b: u64) {
     io::print_decimal(1, a);
@@ -33,7 +32,7 @@ fn write_words(work: &[u32]) {
 }
 
 fn read_over_zeros(text: &[u8], work: &mut [u32]) {
-    area::clear(work);
+    work.fill(0);
     let _ = reader::read(text, work);
 }
 
@@ -59,32 +58,31 @@ fn read_one(text: &[u8], work: &mut [u32]) {
     write_words(work);
 }
 
-// Runs the case at a place and answers the place after it: the end, if the case is cut short.
-fn run_case(cases: &[u8], at: usize, work: &mut [u32]) -> usize
-    requires { at < length cases.now }
-    ensures { (at < result) × (result ≤ length cases.now) }
+// Runs the first case and answers those after it: none, if it is cut short or asks for more words than there are.
+fn run_case<'a>(cases: &'a [u8], work: &mut [u32]) -> &'a [u8]
+    requires { 0 < length cases.now }
+    ensures { length result.now < length cases.now }
 {
-    let rest = cases.len() - at;
-    if rest < 4 {
-        return cases.len();
-    }
-    let text = at + 4;
-    let end = text + u16_at(cases, at);
-    let words = u16_at(cases, at + 2);
-    if cases.len() < end {
-        return cases.len();
-    }
-    if work.len() < words {
-        return cases.len();
-    }
-    read_one(&cases[text..end], &mut work[..words]);
-    end
+    let Some((size, rest)) = cases.split_first_chunk::<2>() else {
+        return &[];
+    };
+    let Some((words, rest)) = rest.split_first_chunk::<2>() else {
+        return &[];
+    };
+    let Some((text, rest)) = rest.split_at_checked(usize::from(u16::from_le_bytes(*size))) else {
+        return &[];
+    };
+    let Some(part) = work.get_mut(..usize::from(u16::from_le_bytes(*words))) else {
+        return &[];
+    };
+    read_one(text, part);
+    rest
 }
 
 fn run(cases: &[u8], work: &mut [u32]) {
-    let mut at = 0;
-    while at < cases.len() {
-        at = run_case(cases, at, work);
+    let mut left = cases;
+    while !left.is_empty() {
+        left = run_case(left, work);
     }
 }
 

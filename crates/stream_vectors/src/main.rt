@@ -3,11 +3,11 @@
 // `make.py` wrote them, and `stdout`, the answers of the paper's model.
 #![tactic(auto)]
 
-ghost use Rattle.std.specs.Prelude.{◌≤◌, ◌<◌, length};
+ghost use Rattle.std.specs.Prelude.{◌<◌, length};
 
 use paper::Found;
 use paper::told::{found_number, found_place};
-use stream::walk;
+use stream::walk::lookup;
 
 fn write_answer(found: Found) {
     io::print_decimal(1, u64::from(found_number(found)));
@@ -16,29 +16,33 @@ fn write_answer(found: Found) {
     io::write_all(1, b"\n");
 }
 
-// Runs the case at a place and answers the place after it: the end, if the case is cut short.
-fn run_case(cases: &[u8], at: usize) -> usize
-    requires { at < length cases.now }
-    ensures { (at < result) × (result ≤ length cases.now) }
+// Runs the first case and answers those after it: none, if it is cut short.
+fn run_case(cases: &[u8]) -> &[u8]
+    requires { 0 < length cases.now }
+    ensures { length result.now < length cases.now }
 {
-    let rest = cases.len() - at;
-    if rest < 4 {
-        return cases.len();
-    }
-    let stream = at + 4;
-    let label = stream + walk::u16_at(cases, at);
-    let end = label + walk::u16_at(cases, at + 2);
-    if cases.len() < end {
-        return cases.len();
-    }
-    write_answer(walk::lookup(&cases[stream..label], &cases[label..end]));
-    end
+    let Some((stream_size, rest)) = cases.split_first_chunk::<2>() else {
+        return &[];
+    };
+    let Some((label_size, rest)) = rest.split_first_chunk::<2>() else {
+        return &[];
+    };
+    let Some((stream, rest)) = rest.split_at_checked(usize::from(u16::from_le_bytes(*stream_size)))
+    else {
+        return &[];
+    };
+    let Some((label, rest)) = rest.split_at_checked(usize::from(u16::from_le_bytes(*label_size)))
+    else {
+        return &[];
+    };
+    write_answer(lookup(stream, label));
+    rest
 }
 
 fn run(cases: &[u8]) {
-    let mut at = 0;
-    while at < cases.len() {
-        at = run_case(cases, at);
+    let mut left = cases;
+    while !left.is_empty() {
+        left = run_case(left);
     }
 }
 

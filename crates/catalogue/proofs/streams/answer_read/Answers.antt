@@ -1,3 +1,5 @@
+use native.Mathlib.Omega.{arith}
+use Rattle.paper.proofs.Options.{handed_on}
 use Rattle.fold.proofs.Starts.{some_whole}
 use Rattle.catalogue.proofs.Numbers.{whole_again, many, short_frames, short_diags, all_done}
 use Rattle.catalogue.proofs.streams.answer_read.Goals as goal
@@ -5,20 +7,23 @@ use Rattle.catalogue.proofs.streams.answer_read.Goals as goal
 pub sizes-requires : goal.sizes-requires
 sizes-requires c = some_whole c.start-at.ensures c.requires
 
-pub returns-in-Err : goal.returns-in-Err
-returns-in-Err c = rw c.refused.ensures (many c.start-at.ensures c.in-Err.ensures)
+pub returns-in_err-needs : goal.returns-in_err-needs
+returns-in_err-needs c =
+    rw (handed_on c.from_residual.result c.from_residual.ensures.1) (many c.start-at.ensures c.in_err-needs.ensures)
 
-pub returns-then-frames-s : goal.returns-then-frames-s
-returns-then-frames-s c =
-    rw c.refused-then-frames-s.ensures (short_frames c.start-at.ensures c.in-Ok.ensures c.if-frames-s.true)
-
-pub returns-then-diags-s : goal.returns-then-diags-s
-returns-then-diags-s c =
-    rw c.refused-then-diags-s.ensures (short_diags c.start-at.ensures c.in-Ok.ensures c.if-frames-s.false c.if-diags-s.true)
+pub returns-then-frames-needs : goal.returns-then-frames-needs
+returns-then-frames-needs c =
+    rw c.refused.ensures (short_frames c.start-at.ensures c.in_ok-needs.ensures (omega arith))
 
 pub fold_all-requires : goal.fold_all-requires
 fold_all-requires c = whole_again c.start-at.ensures c.sizes.ensures c.requires
 
-pub returns-else-diags-s : goal.returns-else-diags-s
-returns-else-diags-s c =
-    rw c.told.ensures (all_done c.start-at.ensures c.in-Ok.ensures c.if-frames-s.false c.if-diags-s.false c.fold_all.ensures)
+pub returns-then-diags-needs : goal.returns-then-diags-needs
+returns-then-diags-needs c =
+    rw c.refused-then-diags-needs.ensures
+    (short_diags c.start-at.ensures c.in_ok-needs.ensures (omega (arith, c.if-frames-needs.false)) (omega (arith, c.if-diags-needs.true)))
+
+pub returns : goal.returns
+returns c =
+    all_done c.start-at.ensures c.in_ok-needs.ensures (omega (arith, c.if-frames-needs.false)) (omega (arith, c.if-diags-needs.false))
+    c.fold_all.ensures

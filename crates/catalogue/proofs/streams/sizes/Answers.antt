@@ -1,5 +1,8 @@
-use Rattle.catalogue.proofs.Numbers.{sizes_of}
+use Rattle.catalogue.proofs.Numbers.{sizes_ok, sizes_err}
 use Rattle.catalogue.proofs.streams.sizes.Goals as goal
 
-pub returns : goal.returns
-returns c = sizes_of c.fold_all.ensures
+pub returns-in-Ok : goal.returns-in-Ok
+returns-in-Ok c = sizes_ok c.in-Ok.ensures
+
+pub returns-in-Err : goal.returns-in-Err
+returns-in-Err c = rw c.refused.ensures (sizes_err c.in-Err.ensures)
