@@ -1,7 +1,6 @@
 -- The number of frames: a statement has at most one, and no record is empty, so the place after it tells whether it has.
 -- Assumes nothing.
 use mathlib.Core.Path.{◌≡◌, refl}
-use mathlib.Core.Bool.{Bool, true, false}
 use mathlib.Core.List.{List, []}
 use Prim.Native.Nat.{ℕ, ◌+◌, ◌≤◌}
 use native.Mathlib.Omega.{arith}
@@ -37,7 +36,3 @@ pub moved : (e : Setting) (l : List Statement) (k at : ℕ) {r : ℕ} → r ≡ 
     → from_bool (ltb at r) ≡ length (given_at l k).frame
 unfolding frame_records given_at give
 moved e l k at {r} q = moved_by e at r (one_by (stmt l k).kind l (view_at l k) (stmt l k)) q
-
-pub at_most_one : (b : Bool) → from_bool b ≤ 1
-at_most_one true = omega arith
-at_most_one false = omega arith

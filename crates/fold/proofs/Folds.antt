@@ -39,7 +39,8 @@ use Rattle.fold.specs.Turn.{SomeTurn, Told, told, over}
 use Rattle.fold.specs.Fold.{Before, SomeBefore, Stepped, Blank, SomeBlank, Whole, SomeWhole, Streamed, streams, crowd, FoldsBlank, FoldsAll}
 use Rattle.fold.specs.Fold as fold
 use Rattle.fold.proofs.Kept.{numbered_same, turn_of, rows_renumbered}
-use Rattle.fold.proofs.Counts.{moved, at_most_one}
+use Rattle.token.proofs.Counts.{bit_le}
+use Rattle.fold.proofs.Counts.{moved}
 
 -- ---- one statement
 pub some_turn : {t w v o o' : List ℕ} {n : ℕ} {st s : Scope} {k : ℕ} → SomeBefore t w n st k → checks.Steps t w v o o' n st s k → SomeTurn t v n s k
@@ -143,7 +144,7 @@ module _ {c : Setting} {t w₀ w b₀ b o₀ o : List ℕ} {n rows : ℕ} {st : 
       record {
         checks = rows_renumbered z.kept (laws.rows_step h x.checks y len);
         len = z.len ∙ x.len;
-        few = omega (arith, x.few, e, at_most_one (ltb at r));
+        few = omega (arith, x.few, e, bit_le (ltb at r));
         sim = λ {l} a. let q = z.sim (turn_of (before_of a) y) in far_more a q.0 q.1 e;
       }
 
