@@ -47,13 +47,10 @@ pub struct Spot {
 
 impl Spot {
     /// Token `index` of the statement at `statement`; 0 where a kind has no index.
-    pub fn new(statement: StatementOffset, index: u32) -> Self
-        ensures { result ≡ record { statement = statement; index = record { 0 = index } } }
+    pub fn new(statement: StatementOffset, index: TokenIndex) -> Self
+        ensures { result ≡ record { statement = statement; index = index } }
     {
-        Spot {
-            statement,
-            index: TokenIndex(index),
-        }
+        Spot { statement, index }
     }
 }
 

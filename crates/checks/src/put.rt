@@ -51,7 +51,13 @@ pub fn put_label(
 {
     match owner {
         Some(o) if o.0 == s.0 => at,
-        Some(o) => put_breach(out, at, Breach::DuplicateLabel, Spot::new(s, 0), o.0),
+        Some(o) => put_breach(
+            out,
+            at,
+            Breach::DuplicateLabel,
+            Spot::new(s, TokenIndex(0)),
+            o.0,
+        ),
         None => at,
     }
 }
@@ -95,7 +101,7 @@ pub fn put_typecode(out: &mut [u8], at: usize, c: CheckedToken, s: StatementOffs
     requires { at < 2 ^ 60 }
     ensures { (result ≤ at + 18) × Wrote out.old out.new at result (gather diag_record (typecode_diags (sense_of c) s.0)) }
 {
-    let spot = Spot::new(s, 0);
+    let spot = Spot::new(s, TokenIndex(0));
     match c {
         CheckedToken::Inactive => put_breach(out, at, Breach::NotActiveSymbol, spot, 0),
         CheckedToken::Constant(_) => at,
@@ -108,7 +114,7 @@ pub fn put_variable(out: &mut [u8], at: usize, c: CheckedToken, s: StatementOffs
     requires { at < 2 ^ 60 }
     ensures { (result ≤ at + 18) × Wrote out.old out.new at result (gather diag_record (variable_diags (sense_of c) s.0)) }
 {
-    let spot = Spot::new(s, 1);
+    let spot = Spot::new(s, TokenIndex(1));
     match c {
         CheckedToken::Inactive => put_breach(out, at, Breach::NotActiveSymbol, spot, 0),
         CheckedToken::Constant(_) => put_breach(out, at, Breach::FloatNotVariable, spot, 0),

@@ -12,7 +12,7 @@ use crate::put::{
 };
 use crate::{Breach, FloatTokens, Spot};
 use nameck::lookup::{Global, lookup_label, lookup_symbol};
-use paper::{Atom, StatementOffset, TokenOffset};
+use paper::{Atom, StatementOffset, TokenIndex, TokenOffset};
 use slots::CheckedToken;
 use slots::cells::of_statement;
 use slots::look::{check_math_symbol, lookup_float, nested_of, record_nested};
@@ -207,5 +207,11 @@ pub fn check_float(
         return q;
     }
     let earlier = earlier_float(work, n, two.variable, s);
-    put_found(diags, q, Breach::FloatRedeclared, earlier, Spot::new(s, 0))
+    put_found(
+        diags,
+        q,
+        Breach::FloatRedeclared,
+        earlier,
+        Spot::new(s, TokenIndex(0)),
+    )
 }

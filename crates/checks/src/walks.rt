@@ -9,7 +9,7 @@ ghost use Rattle.checks.specs.Walks.{Walk, HasFloats, AllGood, WalkEap, WalkDv, 
 use crate::part::MathTokens;
 use crate::tokens::{check_dv_token, check_eap_token, check_nested, check_outer, is_good};
 use crate::{FloatTokens, Spot};
-use paper::{Atom, StatementOffset, TokenOffset};
+use paper::{Atom, StatementOffset, TokenIndex, TokenOffset};
 use slots::cells::of_math;
 use slots::mark::forget_dv;
 
@@ -20,7 +20,7 @@ pub fn all_good(work: &[u32], n: usize, first: usize, count: usize, s: Statement
 {
     for i in 0..count {
         let atom = Atom(of_math(work, n, first + i));
-        if !is_good(work, n, atom, Spot::new(s, i as u32)) {
+        if !is_good(work, n, atom, Spot::new(s, TokenIndex(i as u32))) {
             return false;
         }
     }
@@ -63,7 +63,14 @@ pub fn walk_eap(
     let mut p = at;
     for x in MathTokens::of(part) {
         let atom = Atom(of_math(work, n, first + x.index));
-        p = check_eap_token(work, n, diags, p, atom, Spot::new(s, x.index as u32));
+        p = check_eap_token(
+            work,
+            n,
+            diags,
+            p,
+            atom,
+            Spot::new(s, TokenIndex(x.index as u32)),
+        );
     }
     p
 }
@@ -84,7 +91,14 @@ pub fn walk_dv(
     let mut p = at;
     for x in MathTokens::of(part) {
         let atom = Atom(of_math(work, n, first + x.index));
-        p = check_dv_token(work, n, diags, p, atom, Spot::new(s, x.index as u32));
+        p = check_dv_token(
+            work,
+            n,
+            diags,
+            p,
+            atom,
+            Spot::new(s, TokenIndex(x.index as u32)),
+        );
     }
     p
 }
@@ -147,7 +161,7 @@ pub fn walk_outer(
             p,
             atom,
             offset,
-            Spot::new(s, x.index as u32),
+            Spot::new(s, TokenIndex(x.index as u32)),
         );
     }
     p
@@ -172,7 +186,7 @@ pub fn walk_nested(
     for x in MathTokens::of(part) {
         let atom = Atom(of_math(work, n, first + x.index));
         let offset = TokenOffset(from + x.start as u32);
-        let spot = Spot::new(s, x.index as u32);
+        let spot = Spot::new(s, TokenIndex(x.index as u32));
         p = check_nested(work, n, diags, p, atom, offset, end, spot);
     }
     p
