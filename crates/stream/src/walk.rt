@@ -1,6 +1,6 @@
 // Reading a frame stream: numbers at a place, the framing of one record, and the look-up of a label.
 // Nothing is changed; every buffer and every label has an answer.
-ghost use Rattle.std.specs.Prelude.{◌≡◌, ◌+◌, ◌-◌, ◌<◌, ◌≤◌, ◌^◌, length};
+ghost use Rattle.std.specs.Prelude.{◌≡◌, ◌+◌, ◌-◌, ◌<◌, ◌≤◌, ◌^◌, length, IfSome};
 ghost use Rattle.paper.specs.Base.{sameb};
 ghost use Rattle.paper.specs.Lookup.{u16_at, u32_at, stub_string, stub_at, stub_after, stub_if, look_up};
 ghost use Rattle.stream.specs.Framing.{place_of, string_stop, label_in, framing, kept};
@@ -34,7 +34,7 @@ pub fn u32_at(bytes: &[u8], at: usize) -> usize
 
 /// Where the label string of a record of this kind stands, from the record's start; none for no kind.
 pub fn label_place(kind: usize) -> Option<usize>
-    ensures { result ≡ place_of kind }
+    ensures { IfSome result (λ p. p ≤ 14) × (result ≡ place_of kind) }
 {
     match kind {
         1 | 4 => Some(14),
