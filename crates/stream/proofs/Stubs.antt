@@ -5,12 +5,13 @@ use mathlib.Core.Bool.{Bool, true, false, ◌&&◌}
 use mathlib.Core.List.{List, [], ◌∷◌, ◌++◌}
 use Prim.Native.Nat.{ℕ, ◌+◌, ◌-◌, ◌<◌, ◌≤◌}
 use native.Mathlib.Omega.{arith}
-use lib.Dec.{ltb}
+use lib.Dec.{ltb, leb}
 use lib.ListN.{length, take, drop}
-use borrow.Author.Tests.{le-ltb, lt-ltb, eq-eqb, ne_eqb}
+use borrow.Author.Tests.{le-ltb, lt-ltb, ltb-true, ltb-false, le-leb, lt-leb, eq-eqb, ne_eqb}
 use Rattle.std.specs.List.{list_all}
 use Rattle.std.specs.Prelude.{Some, None}
 use Rattle.paper.specs.Base.{choose}
+use Rattle.paper.proofs.Tests.{split}
 use Rattle.paper.specs.Lookup.{u32_at, stub_string, stub_at, stub_after, stub_if}
 use Rattle.stream.specs.Framing.{string_stop}
 use Rattle.stream.proofs.Strings.{stops, no_string, a_string}
@@ -40,6 +41,16 @@ unfolding stub_string
 stub_low [] b h = sym (rw (lt-ltb b 128 h))
 stub_low (x ∷ []) b h = sym (rw (lt-ltb b 128 h) (no_other (low x)))
 stub_low (x ∷ y ∷ f) b h = sym (ap (λ r. choose (low x) r false) (sym (stub_low (y ∷ f) b h)) ∙ no_other (low x))
+
+-- one of the others is high: no stub string; all are low: the last byte decides
+pub stub_part : (f : List ℕ) (b : ℕ) → list_all low f ≡ false → false ≡ stub_string (f ++ (b ∷ []))
+stub_part f b e = split (low b) (λ q. stub_low f b (ltb-true b 128 q)) (λ q. sym e ∙ stub_high f b (ltb-false b 128 q))
+
+pub stub_last : (f : List ℕ) (b : ℕ) → list_all low f ≡ true → leb 128 b ≡ stub_string (f ++ (b ∷ []))
+stub_last f b e =
+    split (low b)
+    (λ q. lt-leb 128 b (ltb-true b 128 q) ∙ stub_low f b (ltb-true b 128 q))
+    (λ q. le-leb 128 b (ltb-false b 128 q) ∙ sym e ∙ stub_high f b (ltb-false b 128 q))
 
 pub stub_none : (l : List ℕ) → length l ≡ 0 → false ≡ stub_string l
 unfolding stub_string

@@ -45,11 +45,16 @@ wrote_to w e = rw e w
 pub wrote_as : {l m : List ℕ} {at r : ℕ} {a b : List ℕ} → Wrote l m at r a → b ≡ a → Wrote l m at r b
 wrote_as w e = rw e w
 
--- a part of the buffer that is made to hold the bytes b, as by `copy_from_slice`
+-- the bytes b, of which the first i are copied, once i is all of them
+pub wrote_paste : (l : List ℕ) (at i : ℕ) (m b : List ℕ) → m ≡ paste l at b i → i ≡ length b → at + length b ≤ length l → Wrote l m at (at + length b) b
+wrote_paste l at i m b p e h =
+    let q : m ≡ laid l at b = p ∙ ap (paste l at b) e ∙ pasted l at b in
+    record { place = refl; len = ap length q ∙ length_laid l at b h; bytes = λ k. q }
+
+-- a part of the buffer that is made to hold the bytes b, as by `fill`
 pub wrote_part : (l : List ℕ) (at k : ℕ) (m b : List ℕ) → m ≡ b → k ≡ length b → at + length b ≤ length l → Wrote l (put_mid at k l m) at (at + length b) b
 wrote_part l at k m b e n h =
-    let p : put_mid at k l m ≡ laid l at b = put_mid-paste at k l m b (length b) e (sym n) refl ∙ pasted l at b in
-    record { place = refl; len = ap length p ∙ length_laid l at b h; bytes = λ i. p }
+    wrote_paste l at (length b) (put_mid at k l m) b (put_mid-paste at k l m b (length b) e (sym n) refl) refl h
 
 -- a record: its length, and then its kind and its payload
 pub wrote_framed : {l m o : List ℕ} {at p r n : ℕ} (k : ℕ) (b : List ℕ) → Wrote l m at p (u32 n) → Wrote m o p r (u16 k ++ b) → n ≡ 2 + length b

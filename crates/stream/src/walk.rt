@@ -1,6 +1,6 @@
 // Reading a frame stream: numbers at a place, the framing of one record, and the look-up of a label.
 // Nothing is changed; every buffer and every label has an answer.
-ghost use Rattle.std.specs.Prelude.{◌≡◌, ◌+◌, ◌-◌, ◌<◌, ◌≤◌, ◌^◌, length};
+ghost use Rattle.std.specs.Prelude.{◌≡◌, ◌+◌, ◌-◌, ◌<◌, ◌≤◌, ◌^◌, length, IfSome};
 ghost use Rattle.paper.specs.Base.{sameb};
 ghost use Rattle.paper.specs.Lookup.{u16_at, u32_at, stub_string, stub_at, stub_after, stub_if, look_up};
 ghost use Rattle.stream.specs.Framing.{place_of, string_stop, label_in, framing, kept};
@@ -34,7 +34,7 @@ pub fn u32_at(bytes: &[u8], at: usize) -> usize
 
 /// Where the label string of a record of this kind stands, from the record's start; none for no kind.
 pub fn label_place(kind: usize) -> Option<usize>
-    ensures { result ≡ place_of kind }
+    ensures { IfSome result (λ p. p ≤ 14) × (result ≡ place_of kind) }
 {
     match kind {
         1 | 4 => Some(14),
@@ -47,10 +47,16 @@ pub fn label_place(kind: usize) -> Option<usize>
 pub fn is_stub(bytes: &[u8]) -> bool
     ensures { result ≡ stub_string bytes.now }
 {
-    match bytes.split_last() {
-        Some((last, front)) => *last >= 128 && front.iter().all(|b| *b < 128),
-        None => false,
+    let Some((last, front)) = bytes.split_last() else {
+        return false;
+    };
+    // a `for`: `all` takes one step more for each byte
+    for byte in front {
+        if *byte >= 128 {
+            return false;
+        }
     }
+    *last >= 128
 }
 
 /// Where the string at a place stops: its length and its bytes stand before `end`.
@@ -118,6 +124,8 @@ fn label_in(bytes: &[u8], at: usize, kind: usize, after: usize) -> Option<Record
 }
 
 /// The framing of the record at a place; none if no record stands there that is well framed.
+/// Put into its callers, most of which want one field: out of line, each pays for the whole record.
+#[inline]
 pub fn record_at(bytes: &[u8], at: usize) -> Option<Record>
     ensures { result ≡ framing bytes.now at }
 {

@@ -37,7 +37,9 @@ pub fn put_bytes(out: &mut [u8], at: usize, bytes: &[u8]) -> usize
 {
     let end = at + bytes.len();
     if end <= out.len() {
-        out[at..end].copy_from_slice(bytes);
+        for (i, byte) in bytes.iter().enumerate() {
+            out[at + i] = *byte;
+        }
     }
     end
 }
