@@ -67,6 +67,11 @@ pub record Body (w : List ℕ) (n row : ℕ) (x : List ℕ) : Type 0 where
   pub size : length x ≡ count_of w row - 1
   pub atom : (j : ℕ) → j < length x → get_or x j 0 ≡ atom_at w n row (j + 1)
 
+-- the atoms of the first k variables
+pub record Buckets (w : List ℕ) (n k : ℕ) (x : List ℕ) : Type 0 where
+  pub size : length x ≡ k
+  pub atom : (j : ℕ) → j < length x → get_or x j 0 ≡ word w (bucket_cell n j)
+
 -- ---- the rows of the active `$e`, k of them: the row of one, and the bytes of their constants
 abbrev pub essential_row : List ℕ → ℕ → ℕ
 essential_row w k = word w (statement_cell k 10)

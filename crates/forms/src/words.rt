@@ -5,7 +5,7 @@
 ghost use Rattle.std.specs.Prelude.{◌≡◌, ◌≢◌, ◌+◌, ◌-◌, ◌*◌, ◌<◌, ◌≤◌, eqb, length};
 ghost use Rattle.paper.specs.Statements.{none_end};
 ghost use Rattle.area.specs.Cells.{statement_cell, name_cell, bucket_cell, symbol_cell, word};
-ghost use Rattle.forms.specs.Words.{atom_at, count_of, row_code, Body};
+ghost use Rattle.forms.specs.Words.{atom_at, count_of, row_code, Body, Buckets};
 
 use paper::{Atom, StatementRow, TokenIndex, VariableNumber};
 use std::ops::Range;
@@ -56,6 +56,15 @@ pub fn bucket_word(work: &[u32], n: usize, k: VariableNumber) -> Atom
     ensures { result.0 ≡ word work.now (bucket_cell n k.0) }
 {
     Atom(work[area::bucket(n, k.0 as usize)])
+}
+
+/// The atoms of the first `k` variables of the frame.
+pub fn variables<'a>(work: &'a [u32], n: usize, k: usize) -> &'a [u32]
+    requires { (16 * n ≤ length work.now) × (n ≤ 16777217) × (k ≤ n) }
+    ensures { Buckets work.now n k result.now }
+{
+    let first = area::bucket(n, 0);
+    &work[first..first + k]
 }
 
 /// A word of a symbol.
