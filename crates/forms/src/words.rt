@@ -91,14 +91,20 @@ pub fn variable_number(work: &[u32], n: usize, atom: Atom) -> VariableNumber
     VariableNumber(work[area::symbol(n, atom.0 as usize, area::NUMBER)] - 1)
 }
 
+/// The row that a word says, if it says one.
+pub fn row_of(code: usize) -> Option<StatementRow>
+    requires { code ≤ 4294967296 }
+    ensures { row_code result ≡ code }
+{
+    code.checked_sub(1).map(|row| StatementRow(row as u32))
+}
+
 /// The row of the latest accepted `$f` of a variable, if there is one.
 pub fn float_row(work: &[u32], n: usize, atom: Atom) -> Option<StatementRow>
     requires { (16 * n ≤ length work.now) × (n ≤ 16777217) × (atom.0 < n) }
     ensures { row_code result ≡ word work.now (symbol_cell n atom.0 4) }
 {
-    work[area::symbol(n, atom.0 as usize, area::FLOAT)]
-        .checked_sub(1)
-        .map(StatementRow)
+    row_of(symbol_word(work, n, atom, area::FLOAT))
 }
 
 /// The atoms of a statement's math tokens after the first.
