@@ -24,7 +24,8 @@ use Rattle.token.proofs.Counts.{few_tokens}
 use Rattle.reader.specs.Rows.{kind_number}
 use Rattle.reader.specs.Passed.{Reached, Shows, RefusedAt, Refuses, Seen}
 use Rattle.reader.specs.Kinds.{kind_of, number_of, least_number, most_number, closing_number}
-use Rattle.reader.specs.declared.kind.Kind.TheVariants.{C, V, D, F, E, A, P}
+use Rattle.reader.specs.declared.kind.Kind as told
+use Rattle.reader.specs.declared.kind.Kind.TheVariants.{P}
 use Rattle.reader.specs.Runs.{RunRoom, Running, Ran, Proved, closing_of}
 use Rattle.reader.specs.Kept.{with_row, RowRoom, next_state}
 use Rattle.reader.specs.Held.{Held, Begun, Stated}
@@ -82,13 +83,13 @@ least_some $e = omega arith
 least_some $a = omega arith
 least_some $p = omega arith
 
-proof_kind : (k : Kind) → kind_of k ≡ P → k ≡ $p
-proof_kind $c h = let q : C ≡ P = h in let z : ◌≡◌ {A = ℕ} 0 1 = cc in absurd (omega arith)
-proof_kind $v h = let q : V ≡ P = h in let z : ◌≡◌ {A = ℕ} 0 1 = cc in absurd (omega arith)
-proof_kind $d h = let q : D ≡ P = h in let z : ◌≡◌ {A = ℕ} 0 1 = cc in absurd (omega arith)
-proof_kind $f h = let q : F ≡ P = h in let z : ◌≡◌ {A = ℕ} 0 1 = cc in absurd (omega arith)
-proof_kind $e h = let q : E ≡ P = h in let z : ◌≡◌ {A = ℕ} 0 1 = cc in absurd (omega arith)
-proof_kind $a h = let q : A ≡ P = h in let z : ◌≡◌ {A = ℕ} 0 1 = cc in absurd (omega arith)
+pub proof_kind : (k : Kind) → kind_number k ≡ 7 → k ≡ $p
+proof_kind $c h = absurd (omega (arith, h))
+proof_kind $v h = absurd (omega (arith, h))
+proof_kind $d h = absurd (omega (arith, h))
+proof_kind $f h = absurd (omega (arith, h))
+proof_kind $e h = absurd (omega (arith, h))
+proof_kind $a h = absurd (omega (arith, h))
 proof_kind $p h = refl
 
 closed_plain : (k : Kind) → (kind_of k ≡ P → ⊥) → (d o : ℕ) (n : List ℕ) (m : List Token) → closed k d o n m ≡ go start d (statement k o n m [])
@@ -156,7 +157,7 @@ module _ {t : List ℕ} {e c d : ℕ} {m : Mode} {i : List Item} (r : Reached t 
           absurd (omega arith))
 
 -- ---- what the functions ask, from what is known after the keyword
-module _ {t w : List ℕ} {n : ℕ} {s : State} {h : Head} (b : Begun t w n s h) where
+module _ {t w : List ℕ} {n : ℕ} {s : State} {kind : told.Kind} {h : Head} (b : Begun t w n s kind h) where
   small : n ≤ 16777217
   small = omega (arith, b.words.size, b.words.short, few_tokens t)
 
@@ -188,19 +189,19 @@ module _ {t w : List ℕ} {n : ℕ} {s : State} {h : Head} (b : Begun t w n s h)
           items = omega (arith, small, b.words.size);
         }
 
-    pub kept_held : {e : Cursor} {v : List ℕ} {st : State} (ps : List Token)
+    pub kept_held : {e : Cursor} {v : List ℕ} {st : State} {m : ℕ} (ps : List Token)
         → Reached t e.at c (go start s.depth (b.found ++ statement b.kind h.at b.name r.ms ps))
         → s.rows + s.items + s.maths + 2 + count ≤ c
-        → v ≡ with_row u s.rows h to s.maths count → st ≡ next_state s count e
+        → m ≡ number_of kind → v ≡ with_row u s.rows m h to s.maths count → st ≡ next_state s count e
         → length (tokens_from t e.at) < length (tokens_from t s.cursor.at)
         → Lined t e
         → Held t v n st × (length (tokens_from t st.cursor.at) < length (tokens_from t s.cursor.at))
-    kept_held {e} {v} {st} ps q l ev es less line =
+    kept_held {e} {v} {st} {m} ps q l em ev es less line =
         let f = reached_few q in
         rw (ev, es) (
           record {
             found = b.found ++ statement b.kind h.at b.name r.ms ps;
-            words = words_statement b.words h b.kind b.name ps r some (ap number_of b.code ∙ number_is b.kind) b.label b.bears
+            words = words_statement b.words m h b.kind b.name ps r some (em ∙ ap number_of b.code ∙ number_is b.kind) b.label b.bears
                 (omega (arith, b.words.size, b.words.little, b.words.fewer)) (omega (arith, b.words.size)) (omega (arith, b.words.size));
             reached = record { seen = q.seen; passed = q.passed; step = q.step; size = omega (arith, q.size) };
             lined = line;
@@ -210,7 +211,7 @@ module _ {t w : List ℕ} {n : ℕ} {s : State} {h : Head} (b : Begun t w n s h)
         )
 
   -- the math string is read
-  module _ {u : List ℕ} {run : Run} (r : Ran t w u n h.from.at (most_number h.kind) s.maths run) where
+  module _ {u : List ℕ} {run : Run} (r : Ran t w u n h.from.at (most_number kind) s.maths run) where
     ms : List Token
     ms = r.run.ms
 
@@ -227,31 +228,31 @@ module _ {t w : List ℕ} {n : ℕ} {s : State} {h : Head} (b : Begun t w n s h)
 
     allows : (x : Span × Cursor) → run.after ≡ Ok (Some x)
         → allow (math b.kind h.at b.name ms) s.depth (token_of t x.0)
-        ≡ choose (and (sameb (token_of t x.0).bytes (36 ∷ closing_number h.kind ∷ [])) (leb (least_number h.kind) run.count))
+        ≡ choose (and (sameb (token_of t x.0).bytes (36 ∷ closing_number kind ∷ [])) (leb (least_number kind) run.count))
         (closed b.kind s.depth h.at b.name ms) (stop x.0.start)
     unfolding ms allow key
     allows x p =
         let few : run.count < 16777217 = omega (arith, passed_few r.run.passed, reached_few b.reached, b.words.size, small) in
         let e : and (math_token (token_of t x.0)) (room b.kind (length r.run.ms)) ≡ false =
         rw (r.run.counted, room_is b.kind run.count few) (rw (p, ap most_number b.code) at r.ends) in
-        let p₁ : closing_number h.kind ≡ closing b.kind = ap closing_number b.code ∙ closing_is b.kind in
-        let p₂ : least_number h.kind ≡ least b.kind = ap least_number b.code ∙ least_is b.kind in
+        let p₁ : closing_number kind ≡ closing b.kind = ap closing_number b.code ∙ closing_is b.kind in
+        let p₂ : least_number kind ≡ least b.kind = ap least_number b.code ∙ least_is b.kind in
         rw (e, p₁, p₂, r.run.counted)
 
-    pub body_refused : (y : Refused) → Err y ≡ closing_of t run.after run.count (least_number h.kind) (36 ∷ closing_number h.kind ∷ [])
+    pub body_refused : (y : Refused) → Err y ≡ closing_of t run.after run.count (least_number kind) (36 ∷ closing_number kind ∷ [])
         → RefusedAt t y.refusal y.line
     body_refused y q =
-        close_refused ran run.after r.after _ run.count (least_number h.kind) (36 ∷ closing_number h.kind ∷ []) (λ n. refl) allows y q
+        close_refused ran run.after r.after _ run.count (least_number kind) (36 ∷ closing_number kind ∷ []) (λ n. refl) allows y q
 
-    closed_at : (o : Cursor) → Ok o ≡ closing_of t run.after run.count (least_number h.kind) (36 ∷ closing_number h.kind ∷ [])
+    closed_at : (o : Cursor) → Ok o ≡ closing_of t run.after run.count (least_number kind) (36 ∷ closing_number kind ∷ [])
         → (length (tokens_from t o.at) < length (tokens_from t run.stop.at))
         × Reached t o.at (s.rows + s.items + s.maths + 1 + run.count + 1) (with_items b.found (closed b.kind s.depth h.at b.name ms))
-        × (least_number h.kind ≤ run.count)
+        × (least_number kind ≤ run.count)
         × Lined t o
     closed_at o q =
-        close_at ran run.after r.after (closed b.kind s.depth h.at b.name ms) run.count (least_number h.kind) (36 ∷ closing_number h.kind ∷ []) (λ n. refl) allows o q
+        close_at ran run.after r.after (closed b.kind s.depth h.at b.name ms) run.count (least_number kind) (36 ∷ closing_number kind ∷ []) (λ n. refl) allows o q
 
-    module _ (o : Cursor) (q : Ok o ≡ closing_of t run.after run.count (least_number h.kind) (36 ∷ closing_number h.kind ∷ [])) where
+    module _ (o : Cursor) (q : Ok o ≡ closing_of t run.after run.count (least_number kind) (36 ∷ closing_number kind ∷ [])) where
       pub body_some : 1 ≤ run.count
       body_some = omega (arith, (closed_at o q).2, ap least_number b.code, least_is b.kind, least_some b.kind)
 
@@ -262,7 +263,7 @@ module _ {t w : List ℕ} {n : ℕ} {s : State} {h : Head} (b : Begun t w n s h)
       body_less = omega (arith, b.less, passed_few r.run.passed, (closed_at o q).0)
 
       -- any kind but `$p` is done
-      pub body_plain : (h.kind ≡ P → ⊥)
+      pub body_plain : (kind ≡ P → ⊥)
           → Reached t o.at (s.rows + s.items + s.maths + 2 + run.count) (go start s.depth (b.found ++ statement b.kind h.at b.name r.run.ms []))
       unfolding ms
       body_plain k =
@@ -272,17 +273,18 @@ module _ {t w : List ℕ} {n : ℕ} {s : State} {h : Head} (b : Begun t w n s h)
           rw (e, c) at (closed_at o q).1
 
       -- the proof of a `$p` follows
-      pub body_proof : h.kind ≡ P → Stated t u n s h run.stop.at run.count o.at
+      pub body_proof : kind ≡ P → Stated t u n s h run.stop.at run.count o.at
       unfolding ms
       body_proof k =
-          let p : b.kind ≡ $p = proof_kind b.kind (sym b.code ∙ k) in
+          let p : b.kind ≡ $p = proof_kind b.kind (sym (number_is b.kind) ∙ ap number_of (sym b.code ∙ k)) in
           let e : closed b.kind s.depth h.at b.name r.run.ms ≡ go (proof h.at b.name r.run.ms []) s.depth [] =
           ap (λ y. closed y s.depth h.at b.name r.run.ms) p in
           let c : s.rows + s.items + s.maths + 1 + run.count + 1 ≡ s.rows + s.items + s.maths + 2 + run.count = omega arith in
           record {
             base = w;
+            which = kind;
             begun = b;
-            most = most_number h.kind;
+            most = most_number kind;
             run = r.run;
             some = body_some;
             kind = p;
@@ -319,8 +321,9 @@ module _ {t u : List ℕ} {n : ℕ} {s : State} {h : Head} {to count at : ℕ} (
     pub proof_room : RowRoom u s h to count
     proof_room = row_room d.begun d.run d.some shown.1 (omega arith)
 
-    pub proof_held : {v : List ℕ} {st : State} → v ≡ with_row u s.rows h to s.maths count → st ≡ next_state s count o
+    pub proof_held : {v : List ℕ} {st : State} {m : ℕ} → m ≡ 7 → v ≡ with_row u s.rows m h to s.maths count → st ≡ next_state s count o
         → Held t v n st × (length (tokens_from t st.cursor.at) < length (tokens_from t s.cursor.at))
-    proof_held ev es =
-        kept_held d.begun d.run d.some r.run.ps (rw (← d.kind) at shown.1) (omega arith) ev es
+    proof_held em ev es =
+        let number : _ ≡ number_of d.which = em ∙ sym (ap number_of d.begun.code ∙ number_is d.begun.kind ∙ ap kind_number d.kind) in
+        kept_held d.begun d.run d.some r.run.ps (rw (← d.kind) at shown.1) (omega arith) number ev es
         (omega (arith, d.less, passed_few r.run.passed, shown.0)) shown.3

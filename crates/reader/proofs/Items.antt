@@ -99,7 +99,7 @@ module _ {t w : List ℕ} {n : ℕ} {s : State} (h : Held t w n s) where
             let b : begin (plain_kind (token_of t x)) s.depth (token_of t x) ≡ stop x.start = rw (code_none (plain_kind (token_of t x)) q, a) in
             (refuse_token (reached_token {z = stop x.start} h.reached p (allow_begin s.depth (token_of t x) f₁ f₂ ∙ b)) here_before (length t), p.whole.lined)
 
-        pub plain_begun : {c : told.Kind} → Some c ≡ code (plain_kind (token_of t x)) → Begun t w n s (record { kind = c; at = x.start; label = 0; from = a })
+        pub plain_begun : {c : told.Kind} → Some c ≡ code (plain_kind (token_of t x)) → Begun t w n s c (record { at = x.start; label = 0; from = a })
         plain_begun {c} q =
             by_option (plain_kind (token_of t x))
             (λ k e.
@@ -178,7 +178,7 @@ module _ {t w : List ℕ} {n : ℕ} {s : State} (h : Held t w n s) where
             let b : keyword (label_kind (token_of t y)) s.depth (token_of t x) (token_of t y) ≡ stop y.start = rw (code_none (label_kind (token_of t y)) q) in
             (refuse_token (reached_token {z = stop y.start} labelled_at g (allow_named s.depth (token_of t x) (token_of t y) ∙ b)) (omega (arith, g.whole.some, g.stands)) (length t), g.whole.lined)
 
-        pub label_begun : {c : told.Kind} → Some c ≡ code (label_kind (token_of t y)) → Begun t w n s (record { kind = c; at = x.start; label = x.stop - x.start; from = b })
+        pub label_begun : {c : told.Kind} → Some c ≡ code (label_kind (token_of t y)) → Begun t w n s c (record { at = x.start; label = x.stop - x.start; from = b })
         label_begun {c} q =
             by_option (label_kind (token_of t y))
             (λ k e.

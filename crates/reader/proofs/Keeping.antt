@@ -25,7 +25,6 @@ use Rattle.token.proofs.Parts.{part_tokens}
 use Rattle.reader.specs.Rows.{stmt, before, kind_number, Stands, no_statement}
 use Rattle.reader.specs.Passed.{Passed, Gap}
 use Rattle.reader.specs.Runs.{Running}
-use Rattle.reader.specs.Kinds.{number_of}
 use Rattle.reader.specs.Kept.{stated_by, stated, event, no_item, Row, Words, with_row}
 use Rattle.reader.specs.declared.state.Head.{Head}
 use Rattle.reader.proofs.Stores.{stored_below, stored_above, stored_at}
@@ -108,18 +107,18 @@ row_same {t} {w} {v} {n} {s} {x} {m} h e f =
     }
 
 -- ---- one more statement: u are the words after its math tokens, v those with its row
-module _ {t w u : List ℕ} {n : ℕ} {i : List Item} {rows maths items most stop count : ℕ} (h : Words t w n i rows maths items) (d : Head) (k : Kind) (lab : List ℕ) (ps : List Token)
+module _ {t w u : List ℕ} {n : ℕ} {i : List Item} {rows maths items most stop count : ℕ} (h : Words t w n i rows maths items) (kind : ℕ) (d : Head) (k : Kind) (lab : List ℕ) (ps : List Token)
     (r : Running t w u n d.from.at most maths stop count) (some : 1 ≤ count)
-    (ek : number_of d.kind ≡ kind_number k) (el : d.label ≡ length lab) (eb : labelled k ≡ true → Stands t (record { at = d.at; bytes = lab }))
+    (ek : kind ≡ kind_number k) (el : d.label ≡ length lab) (eb : labelled k ≡ true → Stands t (record { at = d.at; bytes = lab }))
     (f₁ : 3 * (rows + 1) < n) (f₂ : maths + count < n) (f₃ : items < n) where
   abbrev pub new : Statement
   new = record { kind = k; at = d.at; end = none_end; label = lab; math = r.ms; proof = ps }
 
   abbrev pub after_row : List ℕ
-  after_row = with_row u rows d stop maths count
+  after_row = with_row u rows kind d stop maths count
 
   abbrev row_words : List ℕ
-  row_words = number_of d.kind ∷ d.at ∷ d.label ∷ d.from.at ∷ stop ∷ maths ∷ count ∷ []
+  row_words = kind ∷ d.at ∷ d.label ∷ d.from.at ∷ stop ∷ maths ∷ count ∷ []
 
   -- the cells outside the new row are those of u
   below : (c : ℕ) → c < 12 * rows → word after_row c ≡ word u c

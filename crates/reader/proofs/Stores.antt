@@ -9,7 +9,6 @@ use lib.ListN.{length, get_or, set, length-set}
 use lib.Seq.{sets}
 use Rattle.area.specs.Cells.{statement_cell, word}
 use Rattle.area.proofs.Laws.{word_same, word_other}
-use Rattle.reader.specs.Kinds.{number_of}
 use Rattle.reader.specs.Kept.{with_row}
 use Rattle.reader.specs.declared.state.Head.{Head}
 
@@ -29,12 +28,12 @@ stored_at (x ∷ l) w i (suc k) h m =
     rw (add-suc, ← suc-add) (stored_at l (set w i x) (suc i) k (le_of_suc-le-suc h) (simp length-set (omega arith)))
 
 -- a row, cell by cell
-pub row_sets : (w : List ℕ) (s : ℕ) (h : Head) (k to first count c₀ c₁ c₂ c₃ c₄ c₅ c₆ : ℕ)
-    → k ≡ number_of h.kind → c₀ ≡ statement_cell s 0 → c₁ ≡ statement_cell s 1 → c₂ ≡ statement_cell s 2 → c₃ ≡ statement_cell s 3
+pub row_sets : (w : List ℕ) (s k : ℕ) (h : Head) (to first count c₀ c₁ c₂ c₃ c₄ c₅ c₆ : ℕ)
+    → c₀ ≡ statement_cell s 0 → c₁ ≡ statement_cell s 1 → c₂ ≡ statement_cell s 2 → c₃ ≡ statement_cell s 3
     → c₄ ≡ statement_cell s 4 → c₅ ≡ statement_cell s 5 → c₆ ≡ statement_cell s 6
-    → set (set (set (set (set (set (set w c₀ k) c₁ h.at) c₂ h.label) c₃ h.from.at) c₄ to) c₅ first) c₆ count ≡ with_row w s h to first count
+    → set (set (set (set (set (set (set w c₀ k) c₁ h.at) c₂ h.label) c₃ h.from.at) c₄ to) c₅ first) c₆ count ≡ with_row w s k h to first count
 unfolding with_row
-row_sets w s h k to first count c₀ c₁ c₂ c₃ c₄ c₅ c₆ n e₀ e₁ e₂ e₃ e₄ e₅ e₆ =
+row_sets w s k h to first count c₀ c₁ c₂ c₃ c₄ c₅ c₆ e₀ e₁ e₂ e₃ e₄ e₅ e₆ =
     let b = statement_cell s 0 in
     let p₁ : c₁ ≡ suc b = omega (arith, e₁) in
     let p₂ : c₂ ≡ suc (suc b) = omega (arith, e₂) in
@@ -42,4 +41,4 @@ row_sets w s h k to first count c₀ c₁ c₂ c₃ c₄ c₅ c₆ n e₀ e₁ e
     let p₄ : c₄ ≡ suc (suc (suc (suc b))) = omega (arith, e₄) in
     let p₅ : c₅ ≡ suc (suc (suc (suc (suc b)))) = omega (arith, e₅) in
     let p₆ : c₆ ≡ suc (suc (suc (suc (suc (suc b))))) = omega (arith, e₆) in
-    rw (n, e₀, p₁, p₂, p₃, p₄, p₅, p₆)
+    rw (e₀, p₁, p₂, p₃, p₄, p₅, p₆)

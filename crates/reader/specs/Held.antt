@@ -11,6 +11,7 @@ use Rattle.reader.specs.Kinds.{kind_of}
 use Rattle.reader.specs.Passed.{Passed, Gap, Reached, RefusedAt}
 use Rattle.reader.specs.Runs.{Running}
 use Rattle.reader.specs.Kept.{Words}
+use Rattle.reader.specs.declared.kind.Kind as told
 use Rattle.reader.specs.declared.state.State.{State}
 use Rattle.reader.specs.declared.state.Head.{Head}
 
@@ -22,14 +23,14 @@ pub record Held (t w : List ℕ) (n : ℕ) (s : State) : Type 0 where
   pub lined : Lined t s.cursor
   pub deep : s.depth ≤ s.items
 
--- after the keyword of a statement
-pub record Begun (t w : List ℕ) (n : ℕ) (s : State) (h : Head) : Type 0 where
+-- after the keyword of a statement of the kind k
+pub record Begun (t w : List ℕ) (n : ℕ) (s : State) (k : told.Kind) (h : Head) : Type 0 where
   pub found : List Item
   pub words : Words t w n found s.rows s.maths s.items
   pub deep : s.depth ≤ s.items
   pub kind : Kind
   pub name : List ℕ
-  pub code : h.kind ≡ kind_of kind
+  pub code : k ≡ kind_of kind
   pub label : h.label ≡ length name
   pub bears : labelled kind ≡ true → Stands t (record { at = h.at; bytes = name })
   pub reached : Reached t h.from.at (s.rows + s.items + s.maths + 1) (go (math kind h.at name []) s.depth found)
@@ -43,7 +44,8 @@ pub record Begun (t w : List ℕ) (n : ℕ) (s : State) (h : Head) : Type 0 wher
 -- after the `$=` of a `$p`, whose math string stops at `to`
 pub record Stated (t u : List ℕ) (n : ℕ) (s : State) (h : Head) (to count at : ℕ) : Type 0 where
   pub base : List ℕ
-  pub begun : Begun t base n s h
+  pub which : told.Kind
+  pub begun : Begun t base n s which h
   pub most : ℕ
   pub run : Running t base u n h.from.at most s.maths to count
   pub some : 1 ≤ count

@@ -9,7 +9,6 @@ use Rattle.paper.specs.Statements.{labelled, Statement, Item, opens, closes, sta
 use Rattle.paper.specs.Checks.{token}
 use Rattle.area.specs.Cells.{statement_cell, bucket_cell, math_cell, word}
 use Rattle.reader.specs.Rows.{stmt, before, kind_number, Stands, label_of}
-use Rattle.reader.specs.Kinds.{number_of}
 use Rattle.token.specs.declared.cursor.Cursor.{Cursor}
 use Rattle.reader.specs.declared.state.State.{State}
 use Rattle.reader.specs.declared.state.Head.{Head}
@@ -63,9 +62,9 @@ pub record Words (t w : List ℕ) (n : ℕ) (i : List Item) (rows maths items : 
   pub fresh : (c : ℕ) → 7 * n + items ≤ c → c < 8 * n → word w c ≡ 0
 
 -- one more row, with these words
-unfoldable pub with_row : List ℕ → ℕ → Head → ℕ → ℕ → ℕ → List ℕ
-with_row w s h to first count =
-    sets w (statement_cell s 0) (number_of h.kind ∷ h.at ∷ h.label ∷ h.from.at ∷ to ∷ first ∷ count ∷ [])
+unfoldable pub with_row : List ℕ → ℕ → ℕ → Head → ℕ → ℕ → ℕ → List ℕ
+with_row w s kind h to first count =
+    sets w (statement_cell s 0) (kind ∷ h.at ∷ h.label ∷ h.from.at ∷ to ∷ first ∷ count ∷ [])
 
 -- what a row asks
 pub record RowRoom (w : List ℕ) (s : State) (h : Head) (to count : ℕ) : Type 0 where

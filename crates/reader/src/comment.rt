@@ -20,8 +20,7 @@ pub enum Comment {
     Never,
 }
 
-/// The first `$` from `at` on, if there is one. Kept out of line: put into the loops below, it takes more steps for each byte.
-#[inline(never)]
+/// The first `$` from `at` on, if there is one.
 pub fn next_dollar(text: &[u8], at: usize) -> Option<usize>
     requires { at ≤ length text.now }
     ensures { NextDollar text.now at result }
@@ -87,22 +86,25 @@ pub fn mark_at(text: &[u8], i: usize) -> bool
         && (is_key(&text[i..stop], KEY_COMMENT) || is_key(&text[i..stop], KEY_COMMENT_END))
 }
 
-/// The first `$(` or `$)` from `at` on, if there is one.
+/// The first `$(` or `$)` from `at` on, if there is one. Kept out of line, and `i` moved on before the test: otherwise it takes more
+/// steps for each byte, and for each `$`.
+#[inline(never)]
 pub fn next_mark(text: &[u8], at: usize) -> Option<usize>
     requires { at ≤ length text.now }
     ensures { NextMark text.now at result }
 {
     let mut i = at;
     while let Some(k) = next_dollar(text, i) {
+        i = k + 1;
         if mark_at(text, k) {
             return Some(k);
         }
-        i = k + 1;
     }
     None
 }
 
-/// Whether a token `$)` starts from `from` on, in a comment that goes on from `at`.
+/// Whether a token `$)` starts from `from` on, in a comment that goes on from `at`. Kept out of line: only a refused text comes here.
+#[inline(never)]
 pub fn closes_from(text: &[u8], at: usize, from: usize) -> bool
     requires { (at ≤ from) × (from ≤ length text.now) }
     ensures { result ≡ found (seek text.now at from) }

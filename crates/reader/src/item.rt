@@ -33,7 +33,7 @@ pub fn read_rest(
 {
     let proof = read_proof(text, c);
     let d = close_run(text, proof, 1, KEY_STOP)?;
-    Ok(keep(work, s, h, to, count, d))
+    Ok(keep(work, s, Kind::P.number(), h, to, count, d))
 }
 
 /// Reads the math string and what closes it, and for a `$p` its proof; keeps the statement.
@@ -42,16 +42,17 @@ pub fn read_body(
     work: &mut [u32],
     n: usize,
     s: State,
+    kind: Kind,
     h: Head,
 ) -> Result<State, Refused>
-    requires { Begun text.now work.old n s h }
+    requires { Begun text.now work.old n s kind h }
     ensures { Turned text.now work.new n s.cursor.at result }
 {
-    let run = read_run(text, work, n, h.from, h.kind.most(), s.maths);
-    let d = close_run(text, run, h.kind.least(), h.kind.closing())?;
-    match h.kind {
+    let run = read_run(text, work, n, h.from, kind.most(), s.maths);
+    let d = close_run(text, run, kind.least(), kind.closing())?;
+    match kind {
         Kind::P => read_rest(text, work, n, s, h, run.stop.at, run.count, d),
-        _ => Ok(keep(work, s, h, run.stop.at, run.count, d)),
+        _ => Ok(keep(work, s, kind.number(), h, run.stop.at, run.count, d)),
     }
 }
 
@@ -74,12 +75,11 @@ pub fn read_labelled(
         return Err(bad_token(y));
     };
     let h = Head {
-        kind,
         at: x.start,
         label: x.stop - x.start,
         from,
     };
-    read_body(text, work, n, s, h)
+    read_body(text, work, n, s, kind, h)
 }
 
 /// Opens a group; the state after it, at `c`.
@@ -139,12 +139,11 @@ pub fn read_from(
         return Err(bad_token(x));
     };
     let h = Head {
-        kind,
         at: x.start,
         label: 0,
         from: c,
     };
-    read_body(text, work, n, s, h)
+    read_body(text, work, n, s, kind, h)
 }
 
 /// Reads the next item; none if the text ends before it.

@@ -3,7 +3,6 @@
 ghost use Rattle.std.specs.Prelude.{◌≡◌};
 ghost use Rattle.reader.specs.Kept.{RowRoom, with_row, next_state};
 
-use crate::kind::Kind;
 use area::{AT, COUNT, FIRST, FROM, KIND, LABEL, TO, statement};
 use token::cursor::Cursor;
 
@@ -18,21 +17,28 @@ pub struct State {
     pub cursor: Cursor,
 }
 
-/// The head of a statement: kind, first token, label length (0 for none), and the cursor after the keyword.
+/// The head of a statement: first token, label length (0 for none), and the cursor after the keyword.
 #[derive(Clone, Copy)]
 pub struct Head {
-    pub kind: Kind,
     pub at: usize,
     pub label: usize,
     pub from: Cursor,
 }
 
-/// Fills the row of a statement whose math string stops at `to`, but for its end; the state after it, at `c`.
-pub fn keep(work: &mut [u32], s: State, h: Head, to: usize, count: usize, c: Cursor) -> State
+/// Fills the row of a statement with this word for its kind, whose math string stops at `to`, but for its end; the state after it, at `c`.
+pub fn keep(
+    work: &mut [u32],
+    s: State,
+    kind: u32,
+    h: Head,
+    to: usize,
+    count: usize,
+    c: Cursor,
+) -> State
     requires { RowRoom work.old s h to count }
-    ensures { (work.new ≡ with_row work.old s.rows h to s.maths count) × (result ≡ next_state s count c) }
+    ensures { (work.new ≡ with_row work.old s.rows kind h to s.maths count) × (result ≡ next_state s count c) }
 {
-    work[statement(s.rows, KIND)] = h.kind.number();
+    work[statement(s.rows, KIND)] = kind;
     work[statement(s.rows, AT)] = h.at as u32;
     work[statement(s.rows, LABEL)] = h.label as u32;
     work[statement(s.rows, FROM)] = h.from.at as u32;

@@ -27,4 +27,4 @@ returns-in_default c = let b = c.requires in
     let r = rw c.most.ensures at c.read_run-run.ensures in
     let q = sym c.in_ok-d.was ∙ (rw (c.least.ensures, c.closing.ensures) at c.close_run.ensures) in
     kept_held b r.run (body_some b r _ q) _ (body_plain b r _ q c.in_default.not-P) (search rules)
-    c.keep.ensures.0 c.keep.ensures.1 (body_less b r _ q) (body_lined b r _ q)
+    c.number.ensures c.keep.ensures.0 c.keep.ensures.1 (body_less b r _ q) (body_lined b r _ q)

@@ -11,4 +11,4 @@ pub keep-requires : goal.keep-requires
 keep-requires c = proof_room c.requires.0 c.read_proof-proof.ensures _ (sym c.in_ok-d.was ∙ c.close_run.ensures)
 
 pub returns : goal.returns
-returns c = proof_held c.requires.0 c.read_proof-proof.ensures _ (sym c.in_ok-d.was ∙ c.close_run.ensures) c.keep.ensures.0 c.keep.ensures.1
+returns c = proof_held c.requires.0 c.read_proof-proof.ensures _ (sym c.in_ok-d.was ∙ c.close_run.ensures) c.number.ensures c.keep.ensures.0 c.keep.ensures.1
