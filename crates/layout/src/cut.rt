@@ -1,7 +1,7 @@
 // The parts of a frame record: each function answers what is left of the bytes after one, or none where it does not fit.
 // `paper`'s `specs/Layout.antt` says what each part is.
 ghost use Rattle.std.specs.Prelude.{◌≡◌, ◌≤◌, option_copied};
-ghost use Rattle.paper.specs.Layout.{part, counted, a_string, a_stub, an_expression, hypothesis_tail, a_hypothesis, names_part, hypotheses_part};
+ghost use Rattle.paper.specs.Layout.{part, counted, times, a_string, a_stub, an_expression, hypothesis_tail, a_hypothesis, names_part, hypotheses_part};
 ghost use Rattle.layout.specs.Cuts.{left};
 ghost use Rattle.layout.specs.Repeats.{Repeats};
 
@@ -107,6 +107,13 @@ fn after_times<'a, F: Fn(&'a [u8]) -> Option<&'a [u8]>>(
     Some(rest)
 }
 
+/// After so many strings.
+pub fn after_strings(bytes: &[u8], count: usize) -> Option<&[u8]>
+    ensures { option_copied result ≡ left (times count a_string bytes.now) }
+{
+    after_times(bytes, count, after_string)
+}
+
 /// After the count of hypotheses and the hypotheses.
 pub fn after_hypotheses(bytes: &[u8]) -> Option<&[u8]>
     ensures { option_copied result ≡ left (hypotheses_part bytes.now) }
@@ -120,6 +127,6 @@ pub fn after_names(bytes: &[u8]) -> Option<&[u8]>
     ensures { option_copied result ≡ left (names_part bytes.now) }
 {
     let rest = after_part(bytes, 4)?;
-    let pool = after_times(rest, u16_at(bytes, 0), after_string)?;
+    let pool = after_strings(rest, u16_at(bytes, 0))?;
     after_string(pool)
 }

@@ -1,6 +1,5 @@
 use mathlib.Core.Path.{sym, ◌∙◌}
 use native.Mathlib.Omega.{arith}
-use Rattle.std.proofs.Common.{rules}
 use Rattle.paper.specs.Layout.{part, times, a_string, names_part}
 use Rattle.layout.proofs.Left.{some_left, none_left, parted, left_then, none_then, left_whole, names_passed}
 use Rattle.layout.proofs.cut.after_names.Goals as goal
@@ -17,17 +16,15 @@ u16_at-requires c = let p = parted 4 c.args.bytes.now c.in_ok-rest.rest.now (som
 pub returns-in_err-pool : goal.returns-in_err-pool
 unfolding names_part
 returns-in_err-pool c =
-    let z = c.after_times.ensures a_string (λ y s p. search rules) in
     rw c.from_residual-in_err-pool.ensures
     (sym (none_then _ a_string
     (names_passed c.args.bytes.now c.u16_at.result c.u16_at.ensures.1 (some_left _ c.after_part.ensures c.in_ok-rest.was)
-    ∙ none_left (times c.u16_at.result a_string c.in_ok-rest.rest.now) z c.in_err-pool.was)))
+    ∙ none_left (times c.u16_at.result a_string c.in_ok-rest.rest.now) c.after_strings.ensures c.in_err-pool.was)))
 
 pub returns : goal.returns
 unfolding names_part
 returns c =
-    let z = c.after_times.ensures a_string (λ y s p. search rules) in
     c.after_string.ensures
     ∙ sym (left_then _ a_string
     (names_passed c.args.bytes.now c.u16_at.result c.u16_at.ensures.1 (some_left _ c.after_part.ensures c.in_ok-rest.was)
-    ∙ some_left (times c.u16_at.result a_string c.in_ok-rest.rest.now) z c.in_ok-pool.was))
+    ∙ some_left (times c.u16_at.result a_string c.in_ok-rest.rest.now) c.after_strings.ensures c.in_ok-pool.was))
