@@ -1,4 +1,5 @@
 pub mod Left
+pub mod Ends
 pub mod Spans
 pub mod StubString
 pub mod Lowered

@@ -1,6 +1,6 @@
 -- Parts of a record: what is left of some bytes after the parts that are cut from them; and whole records, with places.
 -- The parts themselves are those of `paper`'s Layout.
-use Rattle.std.specs.Prelude.{Bool, true, false, List, ℕ, ◌+◌, eqb, take, drop, Option, Some, None}
+use Rattle.std.specs.Prelude.{◌≡◌, Bool, true, false, List, ℕ, ◌+◌, ◌≤◌, eqb, length, take, drop, Option, Some, None}
 use Rattle.paper.specs.Base.{choose, or}
 use Rattle.paper.specs.Lookup.{u16_at, u32_at}
 use Rattle.paper.specs.Layout.{Cut, short, cut, then, a_string, a_stub, float_head, label_part, names_part, hypotheses_part, back_parts, fits}
@@ -9,6 +9,12 @@ use Rattle.paper.specs.Layout.{Cut, short, cut, then, a_string, a_stub, float_he
 abbrev pub left : Cut → Option (List ℕ)
 left short = None
 left (cut p r) = Some r
+
+-- r is an end of the bytes l: some number of them is dropped
+pub record Ends (l r : List ℕ) : Type 0 where
+  pub dropped : ℕ
+  pub within : dropped ≤ length l
+  pub rest : r ≡ drop dropped l
 
 -- ---- the payload of each kind, as one row of parts
 abbrev pub float_by : Bool → List ℕ → Cut

@@ -1,6 +1,5 @@
-use mathlib.Core.Path.{ap, ◌∙◌}
-use Prim.Native.Nat.{ℕ}
-use lib.ListN.{replicate}
+use native.Mathlib.Omega.{arith}
+use Rattle.std.proofs.lemmas.Grind.{common_steps}
 use Rattle.paper.proofs.Options.{handed_on}
 use Rattle.fold.proofs.Starts.{read_held}
 use Rattle.catalogue.proofs.Promises.{unmeasured, measured}
@@ -16,4 +15,4 @@ returns-in_err-read c =
 pub returns : goal.returns
 returns c =
     measured c.args.work.now _ c.in_ok-read.ensures c.measure_read-needs.ensures
-    (c.clear.ensures ∙ ap (λ (x : ℕ). replicate x 0) (c.measure_read-needs.auto.work ∙ c.read.auto.work))
+    (grind (arith, common_steps))

@@ -7,10 +7,10 @@ pub returns-in_err-expression : goal.returns-in_err-expression
 unfolding hypothesis_tail
 returns-in_err-expression c =
     rw c.from_residual.ensures
-    (sym (none_then (an_address c.args.bytes.now) an_expression (left_skipped _ ∙ none_left _ c.after_part.ensures c.in_err-expression.was)))
+    (sym (none_then (an_address c.args.bytes.now) an_expression (left_skipped _ ∙ none_left _ c.after_part.ensures.value c.in_err-expression.was)))
 
 pub returns : goal.returns
 unfolding hypothesis_tail
 returns c =
-    c.after_expression.ensures
-    ∙ sym (left_then (an_address c.args.bytes.now) an_expression (left_skipped _ ∙ some_left _ c.after_part.ensures c.in_ok-expression.was))
+    c.after_expression.ensures.value
+    ∙ sym (left_then (an_address c.args.bytes.now) an_expression (left_skipped _ ∙ some_left _ c.after_part.ensures.value c.in_ok-expression.was))

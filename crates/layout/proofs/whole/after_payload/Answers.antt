@@ -20,13 +20,13 @@ returns-in_err-after_head-in-1 c =
 
 pub returns-in_ok-after_head-in-4 : goal.returns-in_ok-after_head-in-4
 returns-in_ok-after_head-in-4 c =
-    c.after_string.ensures
+    c.after_string.ensures.value
     ∙ sym (left_then (float_head c.args.bytes.now) a_string (some_left _ c.after_head.ensures c.in_ok-after_head-in-4.was))
     ∙ payload_plain c.args.kind c.args.bytes.now c.in-4.is
 
 pub returns-in_ok-after_head-in-1 : goal.returns-in_ok-after_head-in-1
 returns-in_ok-after_head-in-1 c =
-    c.after_stub.ensures
+    c.after_stub.ensures.value
     ∙ sym (left_then (float_head c.args.bytes.now) a_stub (some_left _ c.after_head-in-1.ensures c.in_ok-after_head-in-1.was))
     ∙ payload_stub c.args.kind c.args.bytes.now c.in-1.is
 

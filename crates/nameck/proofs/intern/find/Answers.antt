@@ -1,5 +1,5 @@
 use mathlib.Core.Path.{◌≡◌, refl, sym, ◌∙◌}
-use Prim.Native.Nat.{ℕ, ◌*◌, ◌<◌}
+use Prim.Native.Nat.{ℕ, ◌-◌, ◌*◌, ◌<◌}
 use mathlib.Core.Bool.{Bool}
 use native.Mathlib.Omega.{arith}
 use Rattle.area.specs.Cells.{word}
@@ -33,9 +33,11 @@ is_named-requires c =
 pub returns-then-is_named : goal.returns-then-is_named
 unfolding word
 returns-then-is_named c =
-    rw c.in-Some.ensures.1
+    let e : c.in-Some.before ≡ word c.args.work.now c.loop-before.cell - 1 =
+    omega (arith, c.in-Some.ensures, c.loop-before.invariant.1.within, c.requires.0.rows, c.requires.0.small) in
+    rw e
     (walk_found _ c.requires.1 c.requires.2 c.loop-before.invariant.1 (λ z. omega (arith, z, c.in-Some.ensures.0))
-    (rw c.in-Some.ensures.1 at (sym c.is_named.ensures ∙ c.if-is_named.true)))
+    (rw e at (sym c.is_named.ensures ∙ c.if-is_named.true)))
 
 pub overflow_add-d : goal.overflow_add-d
 unfolding word
@@ -59,12 +61,14 @@ loop-before-smaller c =
 
 pub loop-before-preserved : goal.loop-before-preserved
 unfolding word
-loop-before-preserved c = (
-  link_below c.args.n _ _ (omega (arith, c.in-Some.ensures, c.loop-before.invariant.1.within, c.requires.0.rows)) c.link_of-cell.ensures,
-  walk_step c.requires.1 c.requires.2 _ c.loop-before.invariant.1 (λ z. omega (arith, z, c.in-Some.ensures.0))
-      (rw c.in-Some.ensures.1 at (sym c.is_named.ensures ∙ c.if-is_named.false))
-      (c.link_of-cell.ensures ∙ rw (c.in-Some.ensures.1, c.fork_at.ensures)) refl,
-)
+loop-before-preserved c =
+    let e : c.in-Some.before ≡ word c.args.work.now c.loop-before.cell - 1 =
+    omega (arith, c.in-Some.ensures, c.loop-before.invariant.1.within, c.requires.0.rows, c.requires.0.small) in (
+      link_below c.args.n _ _ (omega (arith, c.in-Some.ensures, c.loop-before.invariant.1.within, c.requires.0.rows)) c.link_of-cell.ensures,
+      walk_step c.requires.1 c.requires.2 _ c.loop-before.invariant.1 (λ z. omega (arith, z, c.in-Some.ensures.0))
+          (rw e at (sym c.is_named.ensures ∙ c.if-is_named.false))
+          (c.link_of-cell.ensures ∙ rw (e, c.fork_at.ensures)) refl,
+    )
 
 pub returns : goal.returns
 unfolding word
